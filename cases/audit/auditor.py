@@ -1,7 +1,12 @@
 """A second auditor, written from docs/LEDGER_AUDIT.md alone: a report and a plan are read, and each row, each sum and the
 end are tested by what the rows before them say."""
+from __future__ import annotations
 
 import re
+from typing import Any, List, Optional, Sequence, Tuple
+
+Kind = Tuple[str, int]  # of a number: its name and its limit
+Row = List[Any]  # a name and numbers, of which a dash is none
 
 MOST_TIME, LAST_SLOT, LAST_ENV, MOST_EXCESS, MOST_NUMBER = 4_194_304, 63, 31, 9, 2**32 - 1
 LEAST_CLIENTS, MOST_CLIENTS, MOST_SHARE, STRIDE_UNIT = 2, 8, 12, 27_720
@@ -22,11 +27,11 @@ ENV_ENDS = ("out", "excess", "keep", "page", "bind", "sent")
 class Fault(Exception):
     """A text that is refused: why, and in which line."""
 
-    def __init__(self, why, line):
+    def __init__(self, why: str, line: int):
         super().__init__(f"{why} {line}")
 
 
-def lines_of(text):
+def lines_of(text: bytes) -> List[bytes]:
     """The lines of a text, and the number behind the last of them."""
     pieces = text.split(b"\n")
     last = pieces.pop()
@@ -34,11 +39,11 @@ def lines_of(text):
     return lines + ([last] if last else [])
 
 
-def is_number(word):
+def is_number(word: bytes) -> bool:
     return re.fullmatch(rb"[0-9]+", word) is not None
 
 
-def numbers(words, kinds, line, dashed=()):
+def numbers(words: Sequence[bytes], kinds: Sequence[Kind], line: int, dashed: Sequence[int] = ()) -> List[Any]:
     """The numbers of words, where dashes may stand at some places. Forms are tested before limits."""
     if len(words) != len(kinds) or not all(is_number(word) or at in dashed and word == b"-" for at, word in enumerate(words)):
         raise Fault("Syntax", line)
@@ -48,7 +53,7 @@ def numbers(words, kinds, line, dashed=()):
     return values
 
 
-def read_row(name, words, line):
+def read_row(name: str, words: List[bytes], line: int) -> Row:
     if name == "own" and (words[2:3] == [b"-"]) != (words[3:4] == [b"-"]):
         raise Fault("Syntax", line)
     return [name, *numbers(words, ROWS[name], line, {"own": (2, 3), "take": (3,)}.get(name, ()))]
@@ -57,7 +62,7 @@ def read_row(name, words, line):
 class Ledger:
     """What a report says: how the run ended and when, its rows and its sums, each with its line."""
 
-    def __init__(self, text):
+    def __init__(self, text: bytes):
         self.rows, self.sums, last = [], [], "nothing"
         lines = lines_of(text)
         for line, content in enumerate(lines, 1):
@@ -65,7 +70,7 @@ class Ledger:
         if last != "done":
             raise Fault("Syntax", len(lines) + 1)
 
-    def read(self, line, content, last):
+    def read(self, line: int, content: bytes, last: str) -> str:
         """Reads a line behind one of this kind; its own kind."""
         first, *words = content.split(b" ")
         name = first.decode("latin-1")
@@ -101,7 +106,7 @@ class Ledger:
 class Plan:
     """Who hands slices on, and the share of each client."""
 
-    def __init__(self, text):
+    def __init__(self, text: bytes):
         self.shares, lines = {}, lines_of(text)
         for line, content in enumerate(lines, 1):
             name, *words = content.split(b" ")
@@ -123,7 +128,7 @@ class Plan:
 class Auditor:
     """The rows of a ledger, and what those before a place say."""
 
-    def __init__(self, ledger, quantum, plan):
+    def __init__(self, ledger: Ledger, quantum: int, plan: Optional[Plan]):
         self.ledger, self.quantum, self.plan = ledger, quantum, plan
         self.rows = [row for _, row in ledger.rows]
         self.counts = {name: [0] * (LAST_ENV + 1) for name in ("run", "pay", "over")}
@@ -133,13 +138,13 @@ class Auditor:
         self.grace, self.slice_start, self.grace_start, self.next_turn, self.time = False, 0, 0, 0, 0
         self.is_boot, self.due = True, []
 
-    def excess(self, env):
+    def excess(self, env: int) -> int:
         return 0 if env in self.dead else max(0, self.counts["over"][env] - self.counts["pay"][env])
 
-    def limit(self):
+    def limit(self) -> int:
         return self.grace_start + self.quantum if self.grace else self.slice_start + self.quantum - 1
 
-    def answer(self):
+    def answer(self) -> Optional[int]:
         """The line of the first fault, or none."""
         for place, (line, row) in enumerate(self.ledger.rows):
             if not self.is_fit(place, *row):
@@ -150,12 +155,12 @@ class Auditor:
                 return line
         return None if self.is_end() else 2
 
-    def is_end(self):
+    def is_end(self) -> bool:
         if self.runner is not None:
             return not self.ledger.idle and self.ledger.time <= self.limit()
         return self.ledger.time == self.next_turn and not (self.ledger.idle and self.slots)
 
-    def is_fit(self, place, name, time, *numbers_behind):
+    def is_fit(self, place: int, name: str, time: int, *numbers_behind: Any) -> bool:
         if name == "own" and self.is_boot:
             slot, owner, holder = numbers_behind
             return time == 0 and owner == holder and (self.boot_slot is None or self.boot_slot < slot)
@@ -163,7 +168,7 @@ class Auditor:
             return False
         return getattr(self, "fits_" + name, lambda *_: True)(place, time, *numbers_behind)
 
-    def fits_own(self, place, time, slot, owner, holder):
+    def fits_own(self, place: int, time: int, slot: int, owner: Optional[int], holder: Optional[int]) -> bool:
         if self.due:
             return self.due[0] == ["own", time, slot, owner, holder]
         if self.runner is None:
@@ -173,56 +178,56 @@ class Auditor:
         of, held = self.slots[slot]
         return held == self.runner and (owner, holder) == ((None, None) if of == self.runner else (of, of))
 
-    def is_turn(self, time, slot, env):
+    def is_turn(self, time: int, slot: int, env: int) -> bool:
         order = [(self.cursor + step) % (LAST_SLOT + 1) for step in range(1, LAST_SLOT + 2)]
         held = [at for at in order if at in self.slots]
         return self.runner is None and time == self.next_turn and held[:1] == [slot] and self.slots[slot][1] == env
 
-    def fits_run(self, _, time, slot, env):
+    def fits_run(self, _: int, time: int, slot: int, env: int) -> bool:
         return self.is_turn(time, slot, env) and self.excess(env) == 0
 
-    def fits_pay(self, _, time, slot, env):
+    def fits_pay(self, _: int, time: int, slot: int, env: int) -> bool:
         return self.is_turn(time, slot, env) and self.excess(env) > 0
 
-    def is_runners(self, slot, env):
+    def is_runners(self, slot: int, env: int) -> bool:
         return self.runner == env and slot == self.cursor
 
-    def is_gift(self, slot, giver, to):
+    def is_gift(self, slot: int, giver: int, to: int) -> bool:
         return self.is_runners(slot, giver) and giver != to and not self.grace
 
-    def fits_give(self, _, time, slot, giver, to):
+    def fits_give(self, _: int, time: int, slot: int, giver: int, to: int) -> bool:
         return self.is_gift(slot, giver, to) and (self.plan is None or giver != self.plan.scheduler or to == self.next_client())
 
-    def next_client(self):
+    def next_client(self) -> int:
         return min(self.plan.shares, key=lambda client: (self.gifts[client] * STRIDE_UNIT // self.plan.shares[client], client))
 
-    def fits_async(self, _, time, slot, giver, to):
+    def fits_async(self, _: int, time: int, slot: int, giver: int, to: int) -> bool:
         return self.is_gift(slot, giver, to)
 
-    def fits_sync(self, place, time, slot, giver, to):
+    def fits_sync(self, place: int, time: int, slot: int, giver: int, to: int) -> bool:
         if not self.is_gift(slot, giver, to) or slot not in self.slots or self.slots[slot][1] != giver:
             return False
         return self.rows[place + 1:place + 2] == [["own", time, slot, self.slots[slot][0], to]]
 
-    def fits_end(self, _, time, slot, env):
+    def fits_end(self, _: int, time: int, slot: int, env: int) -> bool:
         return self.is_runners(slot, env) and not self.grace and time == self.limit()
 
-    def fits_over(self, place, time, slot, env, excess):
+    def fits_over(self, place: int, time: int, slot: int, env: int, excess: int) -> bool:
         dies = [row[:2] + row[3:] for row in self.rows[place + 1:place + 2]] == [["dead", time, env]]
         return self.is_runners(slot, env) and self.grace and time == self.limit() and excess == self.excess(env) + 1 and dies == (excess == MOST_EXCESS)
 
-    def fits_stop(self, _, time, slot, env):
+    def fits_stop(self, _: int, time: int, slot: int, env: int) -> bool:
         return self.is_runners(slot, env)
 
-    def rows_of_death(self, time, env):
+    def rows_of_death(self, time: int, env: int) -> List[Row]:
         changed = {slot: (None, None) if owner == env else (owner, owner) for slot, (owner, holder) in self.slots.items() if env in (owner, holder)}
         return [["own", time, slot, *changed[slot]] for slot in sorted(changed)]
 
-    def fits_dead(self, place, time, slot, env):
+    def fits_dead(self, place: int, time: int, slot: int, env: int) -> bool:
         due = self.rows_of_death(time, env)
         return self.is_runners(slot, env) and self.rows[place + 1:place + 1 + len(due)] == due
 
-    def note(self, name, time, *numbers_behind):
+    def note(self, name: str, time: int, *numbers_behind: Any) -> None:
         """What holds behind a row."""
         self.time, was_boot = time, self.is_boot
         self.is_boot = was_boot and name == "own"
@@ -258,7 +263,7 @@ class Auditor:
                 self.dead.add(env)
 
 
-def answer_to(report, quantum, plan=None, names=("report", "plan")):
+def answer_to(report: bytes, quantum: int, plan: Optional[bytes] = None, names: Tuple[str, str] = ("report", "plan")) -> Tuple[int, str]:
     """The status and the output of `audit`, for these texts."""
     try:
         name = names[0]
