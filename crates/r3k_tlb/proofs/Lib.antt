@@ -1,0 +1,5 @@
+mod Bits
+mod Emptying
+mod Fitting
+mod Looking
+mod Writing
