@@ -1,0 +1,170 @@
+//! The registers of coprocessor 0.
+ghost use Rattle.std.specs.Prelude.{◌≡◌, ◌<◌, ◌^◌, IfSome};
+ghost use Rattle.r3k_cp0.specs.Registers.{blank_cp0, cp0_reg, current_pid, index_row, is_user, probe_word, takes_interrupts, with_cp0_reg, with_pid};
+ghost use Rattle.r3k_cp0.specs.Enter.{context_at, entered, entry_hi_at, left};
+
+use crate::random::Random;
+use mips_exec::{Cpu, Exc, ExcCode, cause_word, restart};
+
+/// The registers of coprocessor 0 by which the processor runs (`docs/MACHINE.md`, "Coprocessor 0"). PRId, which is the
+/// same always, isn't among them.
+#[derive(Drop)]
+pub struct Cp0 {
+    /// Index: a row in bits 13:8; bit 31 says that a probe found none.
+    pub index: u32,
+    /// Random: the row that TLBWR writes.
+    pub random: Random,
+    /// EntryLo: the second word of a row.
+    pub entry_lo: u32,
+    /// Context: bits 30:12 of a bad address in bits 20:2, below the kernel's own bits 31:21.
+    pub context: u32,
+    /// BadVAddr: the bad address.
+    pub bad_vaddr: u32,
+    /// EntryHi: the first word of a row, of which bits 11:6 are the process that runs.
+    pub entry_hi: u32,
+    /// Status: bits 5:0 are three pairs of user mode (odd) and interrupts (even), the one in force lowest; bits 15:8 are
+    /// the mask of interrupts.
+    pub status: u32,
+    /// Cause: what the last exception was.
+    pub cause: u32,
+    /// EPC: where to go on.
+    pub epc: u32,
+}
+
+impl Cp0 {
+    /// The registers when nothing has run: 0, and Random the last row.
+    pub fn new() -> Cp0
+        ensures { result ≡ blank_cp0 }
+    {
+        Cp0 {
+            index: 0,
+            random: Random::last(),
+            entry_lo: 0,
+            context: 0,
+            bad_vaddr: 0,
+            entry_hi: 0,
+            status: 0,
+            cause: 0,
+            epc: 0,
+        }
+    }
+
+    /// What register `n` reads; one without a name reads 0.
+    pub fn read(&self, n: u8) -> u32
+        ensures { result ≡ cp0_reg self.now n }
+    {
+        match n {
+            0 => self.index,
+            1 => u32::from(self.random.row()) << 8,
+            2 => self.entry_lo,
+            4 => self.context,
+            8 => self.bad_vaddr,
+            10 => self.entry_hi,
+            12 => self.status,
+            13 => self.cause,
+            14 => self.epc,
+            15 => 0x200,
+            _ => 0,
+        }
+    }
+
+    /// Writes the bits of register `n` that can be written.
+    pub fn write(&mut self, n: u8, value: u32)
+        ensures { self.new ≡ with_cp0_reg self.old n value }
+    {
+        match n {
+            0 => self.index = value / 0x100 % 0x40 * 0x100,
+            2 => self.entry_lo = value / 0x100 * 0x100,
+            4 => self.context = value / 0x20_0000 * 0x20_0000 + self.context % 0x20_0000,
+            10 => self.entry_hi = value / 0x40 * 0x40,
+            12 => self.status = value / 0x100 % 0x100 * 0x100 + value % 0x40,
+            14 => self.epc = value,
+            _ => (),
+        }
+    }
+
+    /// The process that runs, below 64.
+    #[inline(always)]
+    pub fn pid(&self) -> u8
+        ensures pid { result ≡ current_pid self.now }
+        ensures within { result < 2 ^ 6 }
+    {
+        (self.entry_hi / 0x40 % 0x40) as u8
+    }
+
+    /// Another process runs, below 64.
+    pub fn set_pid(&mut self, pid: u8)
+        requires { pid < 2 ^ 6 }
+        ensures { self.new ≡ with_pid self.old pid }
+    {
+        self.entry_hi = self.entry_hi / 0x1000 * 0x1000 + u32::from(pid) * 0x40;
+    }
+
+    /// Whether the processor is in user mode.
+    #[inline(always)]
+    pub fn is_user(&self) -> bool
+        ensures { result ≡ is_user self.now }
+    {
+        self.status / 2 % 2 == 1
+    }
+
+    /// Whether an interrupt is taken.
+    pub fn takes_interrupts(&self) -> bool
+        ensures { result ≡ takes_interrupts self.now }
+    {
+        self.status % 2 == 1 && self.status / 0x8000 % 2 == 1
+    }
+
+    /// The row that Index names, below 64.
+    pub fn index_row(&self) -> u8
+        ensures row { result ≡ index_row self.now }
+        ensures within { result < 2 ^ 6 }
+    {
+        (self.index / 0x100 % 0x40) as u8
+    }
+
+    /// Index takes what a probe found: a row, below 64, or none.
+    pub fn set_probe(&mut self, found: Option<u8>)
+        requires { IfSome found (λ row. row < 2 ^ 6) }
+        ensures { self.new ≡ record self.old { index = probe_word found } }
+    {
+        self.index = match found {
+            Some(row) => u32::from(row) * 0x100,
+            None => 0x8000_0000,
+        };
+    }
+
+    /// Enters an exception of the processor with these registers: what it was, and where to go on, is kept, and the mode
+    /// is the kernel's, with interrupts off.
+    pub fn enter(&mut self, exc: &Exc, cpu: &Cpu)
+        ensures { self.new ≡ entered exc.now cpu.now self.old }
+    {
+        self.status = self.status / 0x40 * 0x40 + self.status % 0x10 * 4;
+        self.cause = cause_word(exc, cpu.slot);
+        self.epc = restart(cpu);
+        match exc.code {
+            ExcCode::Mod | ExcCode::Tlbl | ExcCode::Tlbs => {
+                self.bad_vaddr = exc.bad;
+                self.translate_at(exc.bad);
+            }
+            ExcCode::Adel | ExcCode::Ades => self.bad_vaddr = exc.bad,
+            _ => (),
+        }
+    }
+
+    /// Goes back to the mode before the last exception.
+    pub fn rfe(&mut self)
+        ensures { self.new ≡ left self.old }
+    {
+        self.status = self.status / 0x10 * 0x10 + self.status / 4 % 0x10;
+    }
+
+    /// EntryHi and Context have the virtual page of this address.
+    fn translate_at(&mut self, bad: u32)
+        ensures { self.new ≡ record self.old { entry_hi = entry_hi_at self.old.entry_hi bad; context = context_at self.old.context bad } }
+    {
+        self.entry_hi = bad / 0x1000 * 0x1000 + self.entry_hi % 0x1000;
+        let upper = self.context / 0x20_0000 * 0x20_0000;
+        self.context = upper + bad / 0x1000 % 0x8_0000 * 4 + self.context % 4;
+    }
+}
