@@ -1,1 +1,1 @@
-mod OneMore
+mod MoreSteps

@@ -4,6 +4,7 @@ ghost use Rattle.byteorder.specs.Endian.{little_number};
 ghost use Rattle.mips_exec.specs.Step.{cpu_after, outcome_of, write_after};
 ghost use Rattle.guest_memory.specs.Space.{lookup};
 ghost use Rattle.guest_memory.specs.Look.{frames_after, guest_step};
+ghost use Rattle.mips_step.specs.Live.{HasZero, IsSameLive, joined};
 ghost use Rattle.mips_step.specs.WordStep.{has_retired};
 ghost use Rattle.guest_step.specs.Lent.{answers_of};
 
@@ -11,7 +12,7 @@ use byteorder::{ByteOrder, LittleEndian};
 use frame_store::Frames;
 use guest_memory::{PAGE_BYTES, Space, bytes_from, locate};
 use mips_exec::{Cpu, Exc, Outcome};
-use mips_step::{Bus, retire_fetched, step_user};
+use mips_step::{Bus, Live, retire_live, step_user};
 use world_model::Purpose;
 
 /// Physical memory, lent for the accesses of an environment.
@@ -86,14 +87,22 @@ pub fn step_guest(cpu: &mut Cpu, frames: &mut Frames, space: &Space<'_>) -> Outc
 
 /// The same of a step whose fetch is answered with this word, of which only is told whether it retires.
 #[inline(always)]
-pub(crate) fn retire_guest(cpu: &mut Cpu, frames: &mut Frames, space: &Space<'_>, word: u32) -> bool
-    requires aligned { cpu.old.pc % 4 ≡ 0 }
-    requires fetched { (answers_of frames.old space.now).fetch cpu.old.pc ≡ Ok word }
-    ensures cpu { cpu.new ≡ cpu_after cpu.old (guest_step frames.old (lookup space.now) cpu.old) }
-    ensures retired { result ≡ has_retired (guest_step frames.old (lookup space.now) cpu.old) }
-    ensures frames { frames.new ≡ frames_after frames.old (lookup space.now) (write_after (guest_step frames.old (lookup space.now) cpu.old)) }
+pub(crate) fn retire_guest(
+    live: &mut Live<'_>,
+    frames: &mut Frames,
+    space: &Space<'_>,
+    word: u32,
+) -> bool
+    requires zero { HasZero live.old }
+    requires aligned { live.old.pc % 4 ≡ 0 }
+    requires fetched { (answers_of frames.old space.now).fetch live.old.pc ≡ Ok word }
+    ensures same { IsSameLive live.old live.new }
+    ensures zero { HasZero live.new }
+    ensures cpu { joined live.new ≡ cpu_after (joined live.old) (guest_step frames.old (lookup space.now) (joined live.old)) }
+    ensures retired { result ≡ has_retired (guest_step frames.old (lookup space.now) (joined live.old)) }
+    ensures frames { frames.new ≡ frames_after frames.old (lookup space.now) (write_after (guest_step frames.old (lookup space.now) (joined live.old))) }
     ensures size { length frames.new ≡ length frames.old }
 {
     let mut bus = GuestBus { frames, space };
-    retire_fetched(cpu, &mut bus, word)
+    retire_live(live, &mut bus, word)
 }

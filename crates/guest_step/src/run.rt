@@ -2,6 +2,7 @@
 ghost use Rattle.std.specs.Prelude.{◌≡◌, ◌≤◌, Ok, true, length, IfSome};
 ghost use Rattle.guest_memory.specs.Space.{lookup};
 ghost use Rattle.guest_memory.specs.Steps.{AllRetire, after_steps};
+ghost use Rattle.mips_step.specs.Live.{HasZero, IsSameLive, joined};
 ghost use Rattle.guest_step.specs.Code.{IsCode, has};
 ghost use Rattle.guest_step.specs.Lent.{answers_of};
 
@@ -10,6 +11,7 @@ use byteorder::{ByteOrder, LittleEndian};
 use frame_store::Frames;
 use guest_memory::{PAGE_BYTES, Space, bytes_from, locate};
 use mips_exec::Cpu;
+use mips_step::Live;
 use world_model::Purpose;
 
 /// A page of physical memory that instructions are fetched from.
@@ -47,27 +49,6 @@ impl CodePage {
         address - address % PAGE_BYTES + address % 4 == self.base
     }
 
-    /// Becomes the page of an address, unless it has it: whether that may be fetched from. Each number is kept by itself,
-    /// since both as one value would be packed and taken apart again in each step.
-    #[inline(always)]
-    fn follow(&mut self, frames: &Frames, space: &Space<'_>, address: u32) -> bool
-        requires { IsCode frames.now (lookup space.now) self.old }
-        ensures code { IsCode frames.now (lookup space.now) self.new }
-        ensures has { result ≡ true → has self.new address ≡ true }
-    {
-        if self.has(address) {
-            return true;
-        }
-        match CodePage::of(frames, space, address) {
-            Some(found) => {
-                self.base = found.base;
-                self.page = found.page;
-                true
-            }
-            None => false,
-        }
-    }
-
     /// The word at an address in the page.
     #[inline(always)]
     fn word(self, frames: &Frames, space: &Space<'_>, address: u32) -> u32
@@ -79,6 +60,37 @@ impl CodePage {
     }
 }
 
+/// Steps of a running program, one after another, whose words stand in this page: at most so many, and as long as they
+/// retire; the result is how many. The first that would do anything else isn't made.
+#[inline(always)]
+fn run_page(
+    live: &mut Live<'_>,
+    frames: &mut Frames,
+    space: &Space<'_>,
+    code: CodePage,
+    most: u32,
+) -> u32
+    requires zero { HasZero live.old }
+    requires code { IsCode frames.old (lookup space.now) code }
+    ensures same { IsSameLive live.old live.new }
+    ensures zero { HasZero live.new }
+    ensures machine { record { cpu = joined live.new; frames = frames.new } ≡ after_steps (lookup space.now) (record { cpu = joined live.old; frames = frames.old }) result }
+    ensures retire { AllRetire (lookup space.now) (record { cpu = joined live.old; frames = frames.old }) result }
+    ensures most { result ≤ most }
+    ensures size { length frames.new ≡ length frames.old }
+{
+    for done in 0..most {
+        if !code.has(live.pc) {
+            return done;
+        }
+        let word = code.word(frames, space, live.pc);
+        if !retire_guest(live, frames, space, word) {
+            return done;
+        }
+    }
+    most
+}
+
 /// Steps of an environment, one after another, at most so many, and as long as they retire; the result is how many. The
 /// first that would do anything else isn't made.
 pub fn run_guest(cpu: &mut Cpu, frames: &mut Frames, space: &Space<'_>, most: u32) -> u32
@@ -87,18 +99,18 @@ pub fn run_guest(cpu: &mut Cpu, frames: &mut Frames, space: &Space<'_>, most: u3
     ensures most { result ≤ most }
     ensures size { length frames.new ≡ length frames.old }
 {
-    let Some(CodePage { base, page }) = CodePage::of(frames, space, cpu.pc) else {
-        return 0;
-    };
-    let mut code = CodePage { base, page };
-    for done in 0..most {
-        if !code.follow(frames, space, cpu.pc) {
-            return done;
+    let mut live = Live::of(cpu);
+    let mut done = 0;
+    while done < most {
+        let Some(code) = CodePage::of(frames, space, live.pc) else {
+            break;
+        };
+        let steps = run_page(&mut live, frames, space, code, most - done);
+        if steps == 0 {
+            break;
         }
-        let word = code.word(frames, space, cpu.pc);
-        if !retire_guest(cpu, frames, space, word) {
-            return done;
-        }
+        done += steps;
     }
-    most
+    live.settle();
+    done
 }

@@ -1,1 +1,2 @@
 pub mod WordStep
+pub mod Live

@@ -2,41 +2,35 @@
 ghost use Rattle.std.specs.Prelude.{◌≡◌};
 ghost use Rattle.mips_exec.specs.Effect.{changed};
 ghost use Rattle.mips_exec.specs.Step.{report_of};
-ghost use Rattle.mips_exec.specs.declared.change.Change.TheVariants.{Jumps};
+ghost use Rattle.mips_step.specs.Live.{HasZero, IsSameLive, joined};
 
-use mips_exec::{Change, Cpu, Outcome};
-
-/// Goes on to the delay slot, and from there to the target.
-fn jump(cpu: &mut Cpu, target: u32)
-    ensures { cpu.new ≡ changed cpu.old (Jumps target) }
-{
-    cpu.pc = cpu.next;
-    cpu.next = target;
-    cpu.slot = true;
-}
+use crate::live::Live;
+use mips_exec::{Change, Outcome};
 
 /// Does what an instruction does. A call and an exception leave the registers.
 #[inline(always)]
-pub(crate) fn apply(cpu: &mut Cpu, change: Change) -> Outcome
-    ensures cpu { cpu.new ≡ changed cpu.old change }
+pub(crate) fn apply(live: &mut Live<'_>, change: Change) -> Outcome
+    requires { HasZero live.old }
+    ensures same { IsSameLive live.old live.new }
+    ensures zero { HasZero live.new }
+    ensures cpu { joined live.new ≡ changed (joined live.old) change }
     ensures outcome { result ≡ report_of change }
 {
     match change {
         Change::Puts(n, value) => {
-            cpu.set_reg(n, value);
-            cpu.advance();
+            live.set_reg(n, value);
+            live.advance();
         }
         Change::PutsHiLo(high, low) => {
-            cpu.hi = high;
-            cpu.lo = low;
-            cpu.advance();
+            live.set_hi_lo(high, low);
+            live.advance();
         }
-        Change::Passes => cpu.advance(),
-        Change::Jumps(target) => jump(cpu, target),
+        Change::Passes => live.advance(),
+        Change::Jumps(target) => live.jump(target),
         Change::JumpsAndLinks(n, target) => {
-            let back = cpu.pc.wrapping_add(8);
-            jump(cpu, target);
-            cpu.set_reg(n, back);
+            let back = live.pc.wrapping_add(8);
+            live.jump(target);
+            live.set_reg(n, back);
         }
         Change::Calls => return Outcome::Call,
         Change::Raises(exc) => return Outcome::Trap(exc),

@@ -5,11 +5,13 @@
 mod arithmetic;
 mod change;
 mod laws;
+mod live;
 mod memory;
 mod memory_table;
 mod step;
 mod table;
 
 pub use laws::steps_are_sound;
+pub use live::Live;
 pub use memory::Bus;
-pub use step::{retire_fetched, step_fetched, step_user};
+pub use step::{retire_live, step_fetched, step_user};

@@ -4,23 +4,30 @@ ghost use Rattle.std.specs.Prelude.{◌≡◌, ◌≤◌, ◌^◌};
 ghost use Rattle.mips_isa.specs.Encoding.{insn_of};
 ghost use Rattle.mips_exec.specs.Access.{access};
 ghost use Rattle.mips_exec.specs.Step.{Wrote, write_after};
+ghost use Rattle.mips_step.specs.Live.{HasZero, joined};
 ghost use Rattle.mips_step.specs.WordStep.{fetched_step, step_of_change};
 
 use crate::arithmetic::{extend_byte, extend_half};
+use crate::live::Live;
 use crate::memory::{Bus, load, store};
 use crate::table::{rs_value, rt_value, signed_imm};
 use mips_codec::{merge_left, merge_right, opcode, rt};
-use mips_exec::{Change, Cpu, Exc, ExcCode, Spot};
+use mips_exec::{Change, Exc, ExcCode, Spot};
 
 /// The change of a word from 2^31 on, once memory has answered its load or store, or what the access raises.
 #[tactic(auto, unfolding(mips_isa::specs::Encoding::insn_of, mips_exec::specs::Effect::effect, mips_exec::specs::Access::access))]
 #[inline(always)]
-pub(crate) fn change_after_access<B: Bus>(cpu: &Cpu, bus: &mut B, word: u32) -> Result<Change, Exc>
-    requires { 2 ^ 31 ≤ word }
-    ensures step { step_of_change cpu.now (access (insn_of word) cpu.now) result ≡ fetched_step (B.answers bus.old) cpu.now word }
-    ensures memory { Wrote B.Kept B.Stored bus.old (write_after (fetched_step (B.answers bus.old) cpu.now word)) bus.new }
+pub(crate) fn change_after_access<B: Bus>(
+    live: &Live<'_>,
+    bus: &mut B,
+    word: u32,
+) -> Result<Change, Exc>
+    requires word { 2 ^ 31 ≤ word }
+    requires zero { HasZero live.now }
+    ensures step { step_of_change (joined live.now) (access (insn_of word) (joined live.now)) result ≡ fetched_step (B.answers bus.old) (joined live.now) word }
+    ensures memory { Wrote B.Kept B.Stored bus.old (write_after (fetched_step (B.answers bus.old) (joined live.now) word)) bus.new }
 {
-    let address = rs_value(cpu, word).wrapping_add(signed_imm(word));
+    let address = rs_value(live, word).wrapping_add(signed_imm(word));
     Ok(match opcode(word) {
         32 => Change::Puts(rt(word), extend_byte(load(bus, Spot::at(address, 1))?)),
         33 => Change::Puts(rt(word), extend_half(load(bus, Spot::at(address, 2))?)),
@@ -28,7 +35,7 @@ pub(crate) fn change_after_access<B: Bus>(cpu: &Cpu, bus: &mut B, word: u32) -> 
             rt(word),
             merge_left(
                 load(bus, Spot::below(address, 4))?,
-                rt_value(cpu, word),
+                rt_value(live, word),
                 address % 4,
             ),
         ),
@@ -39,35 +46,35 @@ pub(crate) fn change_after_access<B: Bus>(cpu: &Cpu, bus: &mut B, word: u32) -> 
             rt(word),
             merge_right(
                 load(bus, Spot::below(address, 4))?,
-                rt_value(cpu, word),
+                rt_value(live, word),
                 address % 4,
             ),
         ),
         40 => {
-            store(bus, Spot::at(address, 1), rt_value(cpu, word))?;
+            store(bus, Spot::at(address, 1), rt_value(live, word))?;
             Change::Passes
         }
         41 => {
-            store(bus, Spot::at(address, 2), rt_value(cpu, word))?;
+            store(bus, Spot::at(address, 2), rt_value(live, word))?;
             Change::Passes
         }
         42 => {
             store(
                 bus,
                 Spot::below(address, (address % 4 + 1) as u8),
-                rt_value(cpu, word) >> (24 - 8 * (address % 4)),
+                rt_value(live, word) >> (24 - 8 * (address % 4)),
             )?;
             Change::Passes
         }
         43 => {
-            store(bus, Spot::at(address, 4), rt_value(cpu, word))?;
+            store(bus, Spot::at(address, 4), rt_value(live, word))?;
             Change::Passes
         }
         46 => {
             store(
                 bus,
                 Spot::at(address, (4 - address % 4) as u8),
-                rt_value(cpu, word),
+                rt_value(live, word),
             )?;
             Change::Passes
         }

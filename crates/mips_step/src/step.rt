@@ -3,9 +3,11 @@ ghost use Rattle.std.specs.Prelude.{◌≡◌};
 ghost use Rattle.mips_isa.specs.Encoding.{insn_of};
 ghost use Rattle.mips_exec.specs.Access.{access};
 ghost use Rattle.mips_exec.specs.Step.{cpu_after, outcome_of, step_of, view_of, write_after, Wrote};
+ghost use Rattle.mips_step.specs.Live.{HasZero, IsSameLive, joined};
 ghost use Rattle.mips_step.specs.WordStep.{fetched_step, has_retired, step_of_change};
 
 use crate::change::apply;
+use crate::live::Live;
 use crate::memory::Bus;
 use crate::memory_table::change_after_access;
 use crate::table::change_without_access;
@@ -16,14 +18,15 @@ const ACCESSES: u32 = 0x8000_0000;
 
 /// The change of a word, once memory has answered its load or store, or what the access raises.
 #[inline(always)]
-fn change_of_word<B: Bus>(cpu: &Cpu, bus: &mut B, word: u32) -> Result<Change, Exc>
-    ensures step { step_of_change cpu.now (access (insn_of word) cpu.now) result ≡ fetched_step (B.answers bus.old) cpu.now word }
-    ensures memory { Wrote B.Kept B.Stored bus.old (write_after (fetched_step (B.answers bus.old) cpu.now word)) bus.new }
+fn change_of_word<B: Bus>(live: &Live<'_>, bus: &mut B, word: u32) -> Result<Change, Exc>
+    requires zero { HasZero live.now }
+    ensures step { step_of_change (joined live.now) (access (insn_of word) (joined live.now)) result ≡ fetched_step (B.answers bus.old) (joined live.now) word }
+    ensures memory { Wrote B.Kept B.Stored bus.old (write_after (fetched_step (B.answers bus.old) (joined live.now) word)) bus.new }
 {
     if word < ACCESSES {
-        Ok(change_without_access(cpu, word))
+        Ok(change_without_access(live, word))
     } else {
-        change_after_access(cpu, bus, word)
+        change_after_access(live, bus, word)
     }
 }
 
@@ -31,29 +34,48 @@ fn change_of_word<B: Bus>(cpu: &Cpu, bus: &mut B, word: u32) -> Result<Change, E
 /// registers and memory.
 #[tactic(auto, using(crate::proofs::Ended::cpu_ended, crate::proofs::Ended::outcome_ended))]
 #[inline(always)]
+fn step_live<B: Bus>(live: &mut Live<'_>, bus: &mut B, word: u32) -> Outcome
+    requires zero { HasZero live.old }
+    ensures same { IsSameLive live.old live.new }
+    ensures cpu { joined live.new ≡ cpu_after (joined live.old) (fetched_step (B.answers bus.old) (joined live.old) word) }
+    ensures outcome { result ≡ outcome_of (fetched_step (B.answers bus.old) (joined live.old) word) }
+    ensures memory { Wrote B.Kept B.Stored bus.old (write_after (fetched_step (B.answers bus.old) (joined live.old) word)) bus.new }
+{
+    match change_of_word(live, bus, word) {
+        Ok(change) => apply(live, change),
+        Err(exc) => Outcome::Trap(exc),
+    }
+}
+
+/// The same, of which only is told whether it retires, for a loop of steps.
+#[tactic(auto, using(crate::proofs::Ended::cpu_ended, crate::proofs::Ended::retired_ended))]
+#[inline(always)]
+pub fn retire_live<B: Bus>(live: &mut Live<'_>, bus: &mut B, word: u32) -> bool
+    requires zero { HasZero live.old }
+    ensures same { IsSameLive live.old live.new }
+    ensures zero { HasZero live.new }
+    ensures cpu { joined live.new ≡ cpu_after (joined live.old) (fetched_step (B.answers bus.old) (joined live.old) word) }
+    ensures retired { result ≡ has_retired (fetched_step (B.answers bus.old) (joined live.old) word) }
+    ensures memory { Wrote B.Kept B.Stored bus.old (write_after (fetched_step (B.answers bus.old) (joined live.old) word)) bus.new }
+{
+    match change_of_word(live, bus, word) {
+        Ok(change) => matches!(apply(live, change), Outcome::Retired),
+        Err(_) => false,
+    }
+}
+
+/// The step of a word that was fetched (`docs/MACHINE.md`, "Effect"). A call of the kernel and an exception leave the
+/// registers and memory.
+#[inline(always)]
 pub fn step_fetched<B: Bus>(cpu: &mut Cpu, bus: &mut B, word: u32) -> Outcome
     ensures cpu { cpu.new ≡ cpu_after cpu.old (fetched_step (B.answers bus.old) cpu.old word) }
     ensures outcome { result ≡ outcome_of (fetched_step (B.answers bus.old) cpu.old word) }
     ensures memory { Wrote B.Kept B.Stored bus.old (write_after (fetched_step (B.answers bus.old) cpu.old word)) bus.new }
 {
-    match change_of_word(cpu, bus, word) {
-        Ok(change) => apply(cpu, change),
-        Err(exc) => Outcome::Trap(exc),
-    }
-}
-
-/// The same, of which only is told whether it retires.
-#[tactic(auto, using(crate::proofs::Ended::cpu_ended, crate::proofs::Ended::retired_ended))]
-#[inline(always)]
-pub fn retire_fetched<B: Bus>(cpu: &mut Cpu, bus: &mut B, word: u32) -> bool
-    ensures cpu { cpu.new ≡ cpu_after cpu.old (fetched_step (B.answers bus.old) cpu.old word) }
-    ensures retired { result ≡ has_retired (fetched_step (B.answers bus.old) cpu.old word) }
-    ensures memory { Wrote B.Kept B.Stored bus.old (write_after (fetched_step (B.answers bus.old) cpu.old word)) bus.new }
-{
-    match change_of_word(cpu, bus, word) {
-        Ok(change) => matches!(apply(cpu, change), Outcome::Retired),
-        Err(_) => false,
-    }
+    let mut live = Live::of(cpu);
+    let outcome = step_live(&mut live, bus, word);
+    live.settle();
+    outcome
 }
 
 /// One step of a user program: the fetch, then the encoding, then the execution.

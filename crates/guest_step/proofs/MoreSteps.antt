@@ -1,5 +1,5 @@
--- One more step retires.
-use Rattle.std.proofs.Common.{◌≡◌, ◌⊎◌, ℕ, ◌+◌, ◌<◌, true, ap, sym, ◌∙◌, arith, add-one, List, length, Option, rules}
+-- More steps retire.
+use Rattle.std.proofs.Common.{◌≡◌, ◌⊎◌, inl, inr, ℕ, zero, suc, ◌+◌, ◌-◌, ◌<◌, true, ap, sym, ◌∙◌, arith, add-one, add-zero, add-suc, List, length, Option, rules}
 use Rattle.mips_exec.specs.declared.exception.Outcome.TheVariants as outcome
 use Rattle.mips_exec.specs.Step.{Step, outcome_of}
 use Rattle.env_frames.specs.declared.mapping.Mapping.{Mapping}
@@ -26,6 +26,26 @@ retires_at lookup m n j k at retired all place = search (rules, outcome_retired)
 pub all_and_one_more : (lookup : ℕ → Option Mapping) (m n : Machine) (k : ℕ) → n ≡ after_steps lookup m k → has_retired (next_step lookup n) ≡ true
     → AllRetire lookup m k → AllRetire lookup m (k + 1)
 all_and_one_more lookup m n k at retired all = record { each = λ j h. retires_at lookup m n j k at retired all (below_or_last j k h) }
+
+-- so many steps, and so many more
+pub after_more : (lookup : ℕ → Option Mapping) (m n : Machine) (k j : ℕ) → n ≡ after_steps lookup m k
+    → after_steps lookup n j ≡ after_steps lookup m (k + j)
+after_more lookup m n k zero at = at ∙ ap (after_steps lookup m) (sym (add-zero k))
+after_more lookup m n k (suc j) at =
+    ap (λ (n : Machine). stepped_by lookup n (next_step lookup n)) (after_more lookup m n k j at) ∙ ap (after_steps lookup m) (sym (add-suc k j))
+
+below_or_beyond : (i k j : ℕ) → i < k + j → (i < k) ⊎ ((i - k < j) × (k + (i - k) ≡ i))
+below_or_beyond i k j h = grind arith
+
+retires_in : (lookup : ℕ → Option Mapping) (m n : Machine) (i k j : ℕ) → n ≡ after_steps lookup m k → AllRetire lookup m k → AllRetire lookup n j
+    → (i < k) ⊎ ((i - k < j) × (k + (i - k) ≡ i)) → outcome_of (next_step lookup (after_steps lookup m i)) ≡ outcome.Retired
+retires_in lookup m n i k j at first then (inl below) = first.each i below
+retires_in lookup m n i k j at first then (inr beyond) =
+    ap (λ (n : Machine). outcome_of (next_step lookup n)) (ap (after_steps lookup m) (sym beyond.1) ∙ sym (after_more lookup m n k (i - k) at)) ∙ then.each (i - k) beyond.0
+
+pub all_more : (lookup : ℕ → Option Mapping) (m n : Machine) (k j : ℕ) → n ≡ after_steps lookup m k → AllRetire lookup m k → AllRetire lookup n j
+    → AllRetire lookup m (k + j)
+all_more lookup m n k j at first then = record { each = λ i h. retires_in lookup m n i k j at first then (below_or_beyond i k j h) }
 
 -- a page that is fetched from still is, in as many pages of memory
 pub still_code : (frames new : List (List ℕ)) (lookup : ℕ → Option Mapping) (code : CodePage) → length new ≡ length frames
