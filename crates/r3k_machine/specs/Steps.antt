@@ -1,0 +1,37 @@
+-- Steps of the machine, one after another, between which its rows and its mode stay.
+use Rattle.std.specs.Prelude.{◌≡◌, ℕ, zero, suc, ◌<◌, List}
+use Rattle.mips_exec.specs.declared.registers.Cpu.{Cpu}
+use Rattle.mips_exec.specs.declared.exception.Outcome.TheVariants as outcome
+use Rattle.mips_exec.specs.Step.{Step, cpu_after, outcome_of, write_after}
+use Rattle.r3k_tlb.specs.declared.row.Row.{Row}
+use Rattle.r3k_cp0.specs.declared.registers.Cp0.{Cp0}
+use Rattle.r3k_machine.specs.Memory.{frames_written, row_step}
+
+-- what steps change: the registers, and physical memory
+pub record Running : Type 0 where
+  pub cpu : Cpu
+  pub frames : List (List ℕ)
+
+-- the next step
+abbrev pub next_row_step : Cp0 → List Row → Running → Step
+next_row_step cp0 rows s = row_step cp0 rows s.frames s.cpu
+
+abbrev pub after_row_step : Cp0 → List Row → Running → Step → Running
+after_row_step cp0 rows s step = record {
+  cpu = cpu_after s.cpu step;
+  frames = frames_written cp0 rows s.frames (write_after step);
+}
+
+-- what so many steps leave
+abbrev pub after_row_steps : Cp0 → List Row → Running → ℕ → Running
+after_row_steps cp0 rows s zero = s
+after_row_steps cp0 rows s (suc k) =
+    let t = after_row_steps cp0 rows s k in after_row_step cp0 rows t (next_row_step cp0 rows t)
+
+-- a step retires
+abbrev pub Retires : Step → Type 0
+Retires step = outcome_of step ≡ outcome.Retired
+
+-- each of the first steps, so many, retires
+pub record RowStepsRetire (cp0 : Cp0) (rows : List Row) (s : Running) (steps : ℕ) : Type 0 where
+  pub each : (k : ℕ) → k < steps → Retires (next_row_step cp0 rows (after_row_steps cp0 rows s k))

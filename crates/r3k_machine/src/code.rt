@@ -1,0 +1,63 @@
+//! The page that instructions are fetched from.
+ghost use Rattle.std.specs.Prelude.{◌≡◌, ◌%◌, Ok, true, length, IfNone, IfSome, IsErr};
+ghost use Rattle.mips_exec.specs.Step.{fetched};
+ghost use Rattle.r3k_cp0.specs.Registers.{is_user};
+ghost use Rattle.r3k_machine.specs.Code.{IsCode, has};
+ghost use Rattle.r3k_machine.specs.Memory.{row_answers};
+
+use crate::bus::bytes_from;
+use crate::translation::{AccessKind, PAGE_BYTES, reached_page};
+use byteorder::{ByteOrder, LittleEndian};
+use frame_store::Frames;
+use r3k_cp0::Cp0;
+use r3k_tlb::Tlb;
+
+/// A page of physical memory that a user's instructions are fetched from.
+#[derive(Clone, Copy)]
+pub(crate) struct CodePage {
+    /// The address of its first byte, as the program sees it.
+    pub base: u32,
+    /// The number of the page in physical memory.
+    pub page: u32,
+}
+
+impl CodePage {
+    /// The page of an address that may be fetched from.
+    #[tactic(auto, unfolding(crate::specs::Memory::row_answers))]
+    pub fn of(frames: &Frames, tlb: &Tlb, cp0: &Cp0, address: u32) -> Option<CodePage>
+        requires { is_user cp0.now ≡ true }
+        ensures code { IfSome result (λ c. IsCode cp0.now tlb.now frames.now c) }
+        ensures has { IfSome result (λ c. has c address ≡ true) }
+        ensures none { IfNone result (IsErr (fetched (row_answers cp0.now tlb.now frames.now) address)) }
+    {
+        if address % 4 != 0 {
+            return None;
+        }
+        match reached_page(frames, tlb, cp0, AccessKind::Fetch, address) {
+            Ok(page) => Some(CodePage {
+                base: address - address % PAGE_BYTES,
+                page,
+            }),
+            Err(_) => None,
+        }
+    }
+
+    /// Whether the address is one of a word in the page.
+    #[inline(always)]
+    pub fn has(self, address: u32) -> bool
+        ensures { result ≡ has self address }
+    {
+        address - address % PAGE_BYTES + address % 4 == self.base
+    }
+
+    /// The word at an address in the page.
+    #[tactic(auto, unfolding(crate::specs::Memory::row_answers))]
+    #[inline(always)]
+    pub fn word(self, frames: &Frames, tlb: &Tlb, cp0: &Cp0, address: u32) -> u32
+        requires code { IsCode cp0.now tlb.now frames.now self }
+        requires has { has self address ≡ true }
+        ensures { (row_answers cp0.now tlb.now frames.now).fetch address ≡ Ok result }
+    {
+        LittleEndian::read_u32(bytes_from(frames, self.page, address))
+    }
+}

@@ -1,0 +1,10 @@
+//! The processor with its TLB and coprocessor 0 over physical memory (`docs/MACHINE.md`).
+#![tactic(auto)]
+
+mod bus;
+mod code;
+mod machine;
+mod run;
+mod translation;
+
+pub use machine::{Machine, MachineEnd};

@@ -1,0 +1,94 @@
+//! Steps one after another, of which the page that is fetched from is kept.
+ghost use Rattle.std.specs.Prelude.{◌≡◌, ◌%◌, ◌<◌, ◌≤◌, Ok, true, false, length};
+ghost use Rattle.mips_exec.specs.Step.{cpu_after, write_after};
+ghost use Rattle.mips_step.specs.Live.{HasZero, IsSameLive, joined};
+ghost use Rattle.mips_step.specs.WordStep.{has_retired};
+ghost use Rattle.r3k_cp0.specs.Registers.{is_user};
+ghost use Rattle.r3k_machine.specs.Code.{IsCode, has};
+ghost use Rattle.r3k_machine.specs.Memory.{frames_written, row_answers, row_step};
+ghost use Rattle.r3k_machine.specs.Steps.{RowStepsRetire, after_row_steps};
+
+use crate::bus::RowBus;
+use crate::code::CodePage;
+use frame_store::Frames;
+use mips_exec::Cpu;
+use mips_step::{Live, retire_live};
+use r3k_cp0::Cp0;
+use r3k_tlb::Tlb;
+
+/// A step whose fetch is answered with this word, of which only is told whether it retires.
+#[tactic(auto, using(crate::proofs::Written::length_written))]
+#[inline(always)]
+fn retire_word(live: &mut Live<'_>, frames: &mut Frames, tlb: &Tlb, cp0: &Cp0, word: u32) -> bool
+    requires zero { HasZero live.old }
+    requires aligned { live.old.pc % 4 ≡ 0 }
+    requires fetched { (row_answers cp0.now tlb.now frames.old).fetch live.old.pc ≡ Ok word }
+    ensures same { IsSameLive live.old live.new }
+    ensures zero { HasZero live.new }
+    ensures cpu { joined live.new ≡ cpu_after (joined live.old) (row_step cp0.now tlb.now frames.old (joined live.old)) }
+    ensures retired { result ≡ has_retired (row_step cp0.now tlb.now frames.old (joined live.old)) }
+    ensures frames { frames.new ≡ frames_written cp0.now tlb.now frames.old (write_after (row_step cp0.now tlb.now frames.old (joined live.old))) }
+    ensures size { length frames.new ≡ length frames.old }
+{
+    let mut bus = RowBus { frames, tlb, cp0 };
+    retire_live(live, &mut bus, word)
+}
+
+/// Steps of a running program, one after another, whose words stand in this page: at most so many, and as long as they
+/// retire; the result is how many. The first that would do anything else isn't made.
+#[inline(always)]
+fn run_page(
+    live: &mut Live<'_>,
+    frames: &mut Frames,
+    tlb: &Tlb,
+    cp0: &Cp0,
+    code: CodePage,
+    most: u32,
+) -> u32
+    requires zero { HasZero live.old }
+    requires code { IsCode cp0.now tlb.now frames.old code }
+    ensures same { IsSameLive live.old live.new }
+    ensures zero { HasZero live.new }
+    ensures machine { record { cpu = joined live.new; frames = frames.new } ≡ after_row_steps cp0.now tlb.now (record { cpu = joined live.old; frames = frames.old }) result }
+    ensures retire { RowStepsRetire cp0.now tlb.now (record { cpu = joined live.old; frames = frames.old }) result }
+    ensures most { result ≤ most }
+    ensures none { 0 < most → has code live.old.pc ≡ true → result ≡ 0 → has_retired (row_step cp0.now tlb.now frames.new (joined live.new)) ≡ false }
+    ensures size { length frames.new ≡ length frames.old }
+{
+    for done in 0..most {
+        if !code.has(live.pc) {
+            return done;
+        }
+        let word = code.word(frames, tlb, cp0, live.pc);
+        if !retire_word(live, frames, tlb, cp0, word) {
+            return done;
+        }
+    }
+    most
+}
+
+/// Steps of a user's program, one after another, at most so many, and as long as they retire; the result is how many. The
+/// first that would do anything else isn't made.
+pub(crate) fn run_rows(cpu: &mut Cpu, frames: &mut Frames, tlb: &Tlb, cp0: &Cp0, most: u32) -> u32
+    requires { is_user cp0.now ≡ true }
+    ensures machine { record { cpu = cpu.new; frames = frames.new } ≡ after_row_steps cp0.now tlb.now (record { cpu = cpu.old; frames = frames.old }) result }
+    ensures retire { RowStepsRetire cp0.now tlb.now (record { cpu = cpu.old; frames = frames.old }) result }
+    ensures most { result ≤ most }
+    ensures stop { result < most → has_retired (row_step cp0.now tlb.now frames.new cpu.new) ≡ false }
+    ensures size { length frames.new ≡ length frames.old }
+{
+    let mut live = Live::of(cpu);
+    let mut done = 0;
+    while done < most {
+        let Some(code) = CodePage::of(frames, tlb, cp0, live.pc) else {
+            break;
+        };
+        let steps = run_page(&mut live, frames, tlb, cp0, code, most - done);
+        if steps == 0 {
+            break;
+        }
+        done += steps;
+    }
+    live.settle();
+    done
+}

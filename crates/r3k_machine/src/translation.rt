@@ -1,0 +1,144 @@
+//! Where an address leads in physical memory, by the rows of the TLB and the mode.
+ghost use Rattle.std.specs.Prelude.{◌≡◌, ◌<◌, IfOk, length};
+ghost use Rattle.r3k_machine.specs.Translation.{address_error, bus_error, is_store, miss, page_by_row, page_by_mode, reached_page};
+
+use aegis_limits::PAGE_SIZE;
+use frame_store::Frames;
+use mips_exec::{Exc, ExcCode};
+use r3k_cp0::Cp0;
+use r3k_tlb::{Row, Tlb};
+
+/// The bytes of a page, as a difference of addresses.
+pub(crate) const PAGE_BYTES: u32 = PAGE_SIZE as u32;
+
+/// Users name the addresses below this one.
+pub(crate) const USER_END: u32 = 0x8000_0000;
+
+/// The kernel's addresses from the users' end to this one go by no row.
+const DIRECT_END: u32 = 0xc000_0000;
+
+/// They are physical modulo this.
+const DIRECT_SIZE: u32 = 0x2000_0000;
+
+/// What memory is asked for.
+#[derive(Clone, Copy)]
+pub(crate) enum AccessKind {
+    Fetch,
+    Load,
+    Store,
+}
+
+impl AccessKind {
+    /// Whether it is a store.
+    #[inline(always)]
+    fn is_store(self) -> bool
+        ensures { result ≡ is_store self }
+    {
+        matches!(self, AccessKind::Store)
+    }
+
+    /// What an address raises that users may not name.
+    fn address_error(self) -> ExcCode
+        ensures { result ≡ address_error self }
+    {
+        match self {
+            AccessKind::Fetch | AccessKind::Load => ExcCode::Adel,
+            AccessKind::Store => ExcCode::Ades,
+        }
+    }
+
+    /// What an address raises that has no row, or one that isn't valid.
+    fn miss(self) -> ExcCode
+        ensures { result ≡ miss self }
+    {
+        match self {
+            AccessKind::Fetch | AccessKind::Load => ExcCode::Tlbl,
+            AccessKind::Store => ExcCode::Tlbs,
+        }
+    }
+
+    /// What an address raises whose page physical memory hasn't got.
+    fn bus_error(self) -> ExcCode
+        ensures { result ≡ bus_error self }
+    {
+        match self {
+            AccessKind::Fetch => ExcCode::Ibe,
+            AccessKind::Load | AccessKind::Store => ExcCode::Dbe,
+        }
+    }
+}
+
+/// The page of an access by its row. V is asked before D, and N isn't asked.
+fn page_by_row(kind: AccessKind, va: u32, row: Option<Row>) -> Result<u32, Exc>
+    ensures { result ≡ page_by_row kind va row }
+{
+    match row {
+        Some(row) if row.is_valid() => {
+            if kind.is_store() && !row.is_dirty() {
+                Err(Exc::plain(ExcCode::Mod).at(va))
+            } else {
+                Ok(row.page())
+            }
+        }
+        _ => Err(Exc::plain(kind.miss()).at(va)),
+    }
+}
+
+/// The page of an access.
+fn page_by_mode(tlb: &Tlb, cp0: &Cp0, kind: AccessKind, va: u32) -> Result<u32, Exc>
+    ensures { result ≡ page_by_mode cp0.now tlb.now kind va }
+{
+    if USER_END <= va && cp0.is_user() {
+        Err(Exc::plain(kind.address_error()).at(va))
+    } else if USER_END <= va && va < DIRECT_END {
+        Ok(va % DIRECT_SIZE / PAGE_BYTES)
+    } else {
+        page_by_row(kind, va, tlb.fitting(va / PAGE_BYTES, cp0.pid()))
+    }
+}
+
+/// The page of physical memory that an access reaches, or what it raises.
+#[inline(never)]
+fn reached_page_by_rule(
+    frames: &Frames,
+    tlb: &Tlb,
+    cp0: &Cp0,
+    kind: AccessKind,
+    va: u32,
+) -> Result<u32, Exc>
+    ensures page { result ≡ reached_page cp0.now tlb.now (length frames.now) kind va }
+    ensures there { IfOk result (λ page. page < length frames.now) }
+{
+    let page = page_by_mode(tlb, cp0, kind, va)?;
+    if page < frames.pages() {
+        Ok(page)
+    } else {
+        Err(Exc::plain(kind.bus_error()).at(va))
+    }
+}
+
+/// The page of physical memory that an access reaches, or what it raises: at once where a row of a user's address serves it.
+#[inline(always)]
+pub(crate) fn reached_page(
+    frames: &Frames,
+    tlb: &Tlb,
+    cp0: &Cp0,
+    kind: AccessKind,
+    va: u32,
+) -> Result<u32, Exc>
+    ensures page { result ≡ reached_page cp0.now tlb.now (length frames.now) kind va }
+    ensures there { IfOk result (λ page. page < length frames.now) }
+{
+    if va < USER_END {
+        match tlb.fitting(va / PAGE_BYTES, cp0.pid()) {
+            Some(row)
+                if row.is_valid()
+                    && (!kind.is_store() || row.is_dirty())
+                    && row.page() < frames.pages() => {
+                return Ok(row.page());
+            }
+            _ => {}
+        }
+    }
+    reached_page_by_rule(frames, tlb, cp0, kind, va)
+}
