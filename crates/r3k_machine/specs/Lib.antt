@@ -5,3 +5,4 @@ pub mod Steps
 pub mod Code
 pub mod Machine
 pub mod Exceptions
+pub mod System

@@ -5,6 +5,8 @@ mod bus;
 mod code;
 mod machine;
 mod run;
+mod system;
 mod translation;
 
 pub use machine::{Machine, MachineEnd};
+pub use translation::AccessKind;

@@ -10,6 +10,7 @@ ghost use Rattle.r3k_cp0.specs.Registers.{cp0_reg, current_pid, is_user, with_cp
 ghost use Rattle.r3k_machine.specs.Exceptions.{as_user, in_exception, interrupted, out_of_exception};
 ghost use Rattle.r3k_machine.specs.Machine.{after_attempts, blank_machine, end_of, end_of_trap, user_step};
 ghost use Rattle.r3k_machine.specs.Memory.{frames_written};
+ghost use Rattle.r3k_machine.specs.System.{machine_step, with_random_fallen};
 ghost use Rattle.r3k_machine.specs.Steps.{RowStepsRetire, after_row_steps};
 
 use crate::bus::RowBus;
@@ -26,7 +27,7 @@ use r3k_tlb::Tlb;
 pub struct Machine {
     pub cpu: Cpu,
     pub tlb: Tlb,
-    cp0: Cp0,
+    pub(crate) cp0: Cp0,
 }
 
 /// How a step of the machine ended.
@@ -75,8 +76,38 @@ impl Machine {
         }
     }
 
-    /// One step in user mode, over physical memory. It lowers Random by one, however it ends.
+    /// Ends an attempted step, which left registers and rows where it trapped: Random falls.
+    fn end_step(&mut self, outcome: Outcome) -> MachineEnd
+        ensures machine { self.new ≡ with_random_fallen self.old }
+        ensures end { result ≡ end_of self.old.cp0 self.old.tlb outcome }
+    {
+        self.cp0.random.fall_times(1);
+        match outcome {
+            Outcome::Retired => MachineEnd::Retired,
+            Outcome::Call => MachineEnd::Call,
+            Outcome::Trap(exc) => self.end_of_trap(exc),
+        }
+    }
+
+    /// A step of the instruction table, but for the fall of Random.
     #[tactic(auto, using(crate::proofs::Written::length_written))]
+    pub(crate) fn table_step(&mut self, frames: &mut Frames) -> Outcome
+        ensures cpu { self.new.cpu ≡ cpu_after self.old.cpu (user_step self.old frames.old) }
+        ensures outcome { result ≡ outcome_of (user_step self.old frames.old) }
+        ensures frames { frames.new ≡ frames_written self.old.cp0 self.old.tlb frames.old (write_after (user_step self.old frames.old)) }
+        ensures size { length frames.new ≡ length frames.old }
+        ensures rows { self.new.tlb ≡ self.old.tlb }
+        ensures cp0 { self.new.cp0 ≡ self.old.cp0 }
+    {
+        let mut bus = RowBus {
+            frames,
+            tlb: &self.tlb,
+            cp0: &self.cp0,
+        };
+        step_user(&mut self.cpu, &mut bus)
+    }
+
+    /// One step in user mode, over physical memory. It lowers Random by one, however it ends.
     pub fn user_step(&mut self, frames: &mut Frames) -> MachineEnd
         requires user { is_user self.old.cp0 ≡ true }
         ensures cpu { self.new.cpu ≡ cpu_after self.old.cpu (user_step self.old frames.old) }
@@ -86,18 +117,24 @@ impl Machine {
         ensures rows { self.new.tlb ≡ self.old.tlb }
         ensures cp0 { self.new.cp0 ≡ after_attempts 1 self.old.cp0 }
     {
-        let mut bus = RowBus {
-            frames,
-            tlb: &self.tlb,
-            cp0: &self.cp0,
+        let outcome = self.table_step(frames);
+        self.end_step(outcome)
+    }
+
+    /// One step, over physical memory, in the mode that Status says: in kernel mode the instructions of coprocessor 0 are
+    /// done, which in user mode are exceptions. It lowers Random by one, however it ends.
+    pub fn step(&mut self, frames: &mut Frames) -> MachineEnd
+        ensures machine { self.new ≡ with_random_fallen (machine_step self.old frames.old).machine }
+        ensures end { result ≡ end_of self.old.cp0 self.old.tlb (machine_step self.old frames.old).outcome }
+        ensures frames { frames.new ≡ (machine_step self.old frames.old).frames }
+        ensures size { length frames.new ≡ length frames.old }
+    {
+        let outcome = if self.cp0.is_user() {
+            self.table_step(frames)
+        } else {
+            self.kernel_step(frames)
         };
-        let outcome = step_user(&mut self.cpu, &mut bus);
-        self.cp0.random.fall_times(1);
-        match outcome {
-            Outcome::Retired => MachineEnd::Retired,
-            Outcome::Call => MachineEnd::Call,
-            Outcome::Trap(exc) => self.end_of_trap(exc),
-        }
+        self.end_step(outcome)
     }
 
     /// Steps in user mode, one after another, at most so many, and as long as they retire; the result is how many. It ends

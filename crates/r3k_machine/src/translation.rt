@@ -22,9 +22,12 @@ const DIRECT_SIZE: u32 = 0x2000_0000;
 
 /// What memory is asked for.
 #[derive(Clone, Copy)]
-pub(crate) enum AccessKind {
+pub enum AccessKind {
+    /// The instruction to run.
     Fetch,
+    /// Bytes for a register.
     Load,
+    /// To take bytes of a register.
     Store,
 }
 
