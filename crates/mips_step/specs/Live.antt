@@ -5,10 +5,8 @@ use Rattle.mips_step.specs.declared.live.Live.{Live}
 
 -- the processor's registers: register 0 holds what it held before these steps
 abbrev pub joined : Live → Cpu
-joined live = record {
-  regs = slice_set live.general.now.regs 0 live.zeroth;
-  hi = live.hi;
-  lo = live.lo;
+joined live = record live.cpu.now {
+  regs = slice_set live.cpu.now.regs 0 live.zeroth;
   pc = live.pc;
   next = live.next;
   slot = live.slot;
@@ -16,8 +14,8 @@ joined live = record {
 
 -- register 0 holds 0
 abbrev pub HasZero : Live → Type 0
-HasZero live = slice_index live.general.now.regs 0 ≡ 0
+HasZero live = slice_index live.cpu.now.regs 0 ≡ 0
 
--- the general registers stand where they stood
+-- the registers stand where they stood
 abbrev pub IsSameLive : Live → Live → Type 0
-IsSameLive old new = new.general.ghost_name ≡ old.general.ghost_name
+IsSameLive old new = new.cpu.ghost_name ≡ old.cpu.ghost_name

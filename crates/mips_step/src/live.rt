@@ -5,16 +5,14 @@ ghost use Rattle.mips_step.specs.Live.{HasZero, IsSameLive, joined};
 
 use mips_exec::Cpu;
 
-/// The registers of a program while its steps are made: those that each step changes are apart from the general ones, so that
+/// The registers of a program while its steps are made: those that each step changes are apart from the others, so that
 /// a loop of steps keeps them in registers of the host; and register 0 holds 0, so that no read asks for its number.
 #[derive(Drop)]
 pub struct Live<'a> {
-    /// The general registers; of the others the values before these steps.
-    general: &'a mut Cpu,
+    /// All registers; `pc`, `next` and `slot` have the values before these steps.
+    cpu: &'a mut Cpu,
     /// What register 0 held before these steps.
     zeroth: u32,
-    pub hi: u32,
-    pub lo: u32,
     pub pc: u32,
     pub next: u32,
     pub slot: bool,
@@ -42,25 +40,16 @@ impl<'a> Live<'a> {
     /// The processor's registers as steps want them.
     #[inline(always)]
     pub fn of(cpu: &'a mut Cpu) -> Live<'a>
-        ensures same { result.general.ghost_name ≡ cpu.entry.ghost_name }
+        ensures same { result.cpu.ghost_name ≡ cpu.entry.ghost_name }
         ensures cpu { joined result ≡ cpu.old }
         ensures zero { HasZero result }
     {
-        let Cpu {
-            hi,
-            lo,
-            pc,
-            next,
-            slot,
-            ..
-        } = *cpu;
+        let Cpu { pc, next, slot, .. } = *cpu;
         let zeroth = cpu.regs[0];
         cpu.regs[0] = 0;
         Live {
-            general: cpu,
+            cpu,
             zeroth,
-            hi,
-            lo,
             pc,
             next,
             slot,
@@ -71,14 +60,12 @@ impl<'a> Live<'a> {
     #[inline(always)]
     pub fn settle(&mut self)
         ensures same { IsSameLive self.old self.new }
-        ensures cpu { self.new.general.now ≡ joined self.old }
+        ensures cpu { self.new.cpu.now ≡ joined self.old }
     {
-        self.general.regs[0] = self.zeroth;
-        self.general.hi = self.hi;
-        self.general.lo = self.lo;
-        self.general.pc = self.pc;
-        self.general.next = self.next;
-        self.general.slot = self.slot;
+        self.cpu.regs[0] = self.zeroth;
+        self.cpu.pc = self.pc;
+        self.cpu.next = self.next;
+        self.cpu.slot = self.slot;
     }
 
     /// What register `n` reads.
@@ -88,7 +75,7 @@ impl<'a> Live<'a> {
         requires zero { HasZero self.now }
         ensures { result ≡ reg (joined self.now) n }
     {
-        general(self.general, n)
+        general(self.cpu, n)
     }
 
     /// Writes register `n`, below 32; register 0 stays.
@@ -98,7 +85,23 @@ impl<'a> Live<'a> {
         ensures cpu { joined self.new ≡ with_reg (joined self.old) n value }
         ensures zero { HasZero self.old → HasZero self.new }
     {
-        set_general(self.general, n, value);
+        set_general(self.cpu, n, value);
+    }
+
+    /// What HI reads.
+    #[inline(always)]
+    pub(crate) fn hi(&self) -> u32
+        ensures { result ≡ (joined self.now).hi }
+    {
+        self.cpu.hi
+    }
+
+    /// What LO reads.
+    #[inline(always)]
+    pub(crate) fn lo(&self) -> u32
+        ensures { result ≡ (joined self.now).lo }
+    {
+        self.cpu.lo
     }
 
     /// HI and LO take the values.
@@ -108,8 +111,8 @@ impl<'a> Live<'a> {
         ensures cpu { joined self.new ≡ with_hi_lo (joined self.old) high low }
         ensures zero { HasZero self.old → HasZero self.new }
     {
-        self.hi = high;
-        self.lo = low;
+        self.cpu.hi = high;
+        self.cpu.lo = low;
     }
 
     /// Goes on to the next instruction, out of a delay slot.
