@@ -44,7 +44,8 @@ pub enum MachineEnd {
 }
 
 impl Machine {
-    /// The machine in which nothing has run: all registers are 0 but Random, which names the last row, and PRId; all rows are emptied.
+    /// The machine in which nothing has run: all registers are 0 but Random, which names the last row, and PRId; all rows are
+    /// emptied.
     pub fn new() -> Machine
         ensures { result ≡ blank_machine }
     {
@@ -121,8 +122,8 @@ impl Machine {
         self.end_step(outcome)
     }
 
-    /// One step, over physical memory, in the mode that Status says: in kernel mode the instructions of coprocessor 0 are
-    /// done, which in user mode are exceptions. It lowers Random by one, however it ends.
+    /// One step, over physical memory, in the mode that Status says: in kernel mode the instructions of coprocessor 0
+    /// are done, which in user mode are exceptions. It lowers Random by one, however it ends.
     pub fn step(&mut self, frames: &mut Frames) -> MachineEnd
         ensures machine { self.new ≡ with_random_fallen (machine_step self.old frames.old).machine }
         ensures end { result ≡ end_of self.old.cp0 self.old.tlb (machine_step self.old frames.old).outcome }
@@ -137,8 +138,9 @@ impl Machine {
         self.end_step(outcome)
     }
 
-    /// Steps in user mode, one after another, at most so many, and as long as they retire; the result is how many. It ends
-    /// before that number only where the next step wouldn't retire, which isn't made. Random is lowered by the result.
+    /// Steps in user mode, one after another, at most so many, and as long as they retire; the result is how many. It
+    /// ends before that number only where the next step wouldn't retire, which isn't made. Random is lowered by the
+    /// result.
     pub fn run(&mut self, frames: &mut Frames, most: u32) -> u32
         requires user { is_user self.old.cp0 ≡ true }
         ensures machine { record { cpu = self.new.cpu; frames = frames.new } ≡ after_row_steps self.old.cp0 self.old.tlb (record { cpu = self.old.cpu; frames = frames.old }) result }

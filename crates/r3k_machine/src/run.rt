@@ -67,8 +67,8 @@ fn run_page(
     most
 }
 
-/// Steps of a user's program, one after another, at most so many, and as long as they retire; the result is how many. The
-/// first that would do anything else isn't made.
+/// Steps of a user's program, one after another, at most so many, and as long as they retire; the result is how many.
+/// The first that would do anything else isn't made.
 pub(crate) fn run_rows(cpu: &mut Cpu, frames: &mut Frames, tlb: &Tlb, cp0: &Cp0, most: u32) -> u32
     requires { is_user cp0.now ≡ true }
     ensures machine { record { cpu = cpu.new; frames = frames.new } ≡ after_row_steps cp0.now tlb.now (record { cpu = cpu.old; frames = frames.old }) result }

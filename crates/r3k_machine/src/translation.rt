@@ -120,7 +120,8 @@ fn reached_page_by_rule(
     }
 }
 
-/// The page of physical memory that an access reaches, or what it raises: at once where a row of a user's address serves it.
+/// The page of physical memory that an access reaches, or what it raises: at once where a row of a user's address
+/// serves it.
 #[inline(always)]
 pub(crate) fn reached_page(
     frames: &Frames,
