@@ -1,1 +1,2 @@
 mod Runner
+mod Attempts

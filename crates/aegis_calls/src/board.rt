@@ -5,11 +5,13 @@ use board_model::{Clock, Lines, Roster};
 use filter_tree::Claims;
 use frame_store::Frames;
 use kernel_journal::Journal;
-use mips_exec::Cpu;
 use page_book::Pages;
 use revocation_book::Revocations;
 use slot_vector::Slots;
 use std::marker::Model;
+use tlb_model::Fills;
+use r3k_machine::Machine;
+use aegis_limits::ENVIRONMENT_NUMBERS;
 
 /// The machine, the environments on it, and the kernel's books.
 #[derive(Drop)]
@@ -21,10 +23,11 @@ pub struct Board {
     pub(crate) claims: Claims,
     pub(crate) revocations: Revocations,
     pub(crate) slots: Slots,
-    pub(crate) cpu: Cpu,
+    pub(crate) machine: Machine,
     pub(crate) roster: Roster,
     pub(crate) time: Clock,
     pub(crate) journal: Journal,
+    pub(crate) fills: [Fills; ENVIRONMENT_NUMBERS],
 }
 
 impl Model for Board {
@@ -33,9 +36,9 @@ impl Model for Board {
 
     ghost Value = { Shown };
 
-    ghost view = { λ b. record { frames = b.frames; pages = b.pages; binds = b.bindings; lines = b.lines; claims = b.claims; revocations = b.revocations; slots = b.slots; cpu = b.cpu; roster = b.roster; time = b.time; ledger = b.journal } };
+    ghost view = { λ b. record { frames = b.frames; pages = b.pages; binds = b.bindings; lines = b.lines; claims = b.claims; revocations = b.revocations; slots = b.slots; cpu = b.machine.cpu; roster = b.roster; time = b.time; ledger = b.journal; tlb = record { rows = b.machine.tlb; random = b.machine.cp0.random; fills = b.fills } } };
 
-    ghost invariant = { λ b. IsSoundBoard (record { frames = b.frames; pages = b.pages; binds = b.bindings; lines = b.lines; claims = b.claims; revocations = b.revocations; slots = b.slots; cpu = b.cpu; roster = b.roster; time = b.time; ledger = b.journal }) };
+    ghost invariant = { λ b. IsSoundBoard (record { frames = b.frames; pages = b.pages; binds = b.bindings; lines = b.lines; claims = b.claims; revocations = b.revocations; slots = b.slots; cpu = b.machine.cpu; roster = b.roster; time = b.time; ledger = b.journal; tlb = record { rows = b.machine.tlb; random = b.machine.cp0.random; fills = b.fills } }) };
 }
 
 impl Board {

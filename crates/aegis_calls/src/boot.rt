@@ -13,10 +13,12 @@ use board_boot::{bare_memory, boot_journal, load};
 use board_model::{Clock, Lines, Roster};
 use boot_image::Program;
 use filter_tree::Claims;
-use mips_exec::Cpu;
 use revocation_book::Revocations;
 use slot_vector::Slots;
 use std::alloc::Global;
+use tlb_model::Fills;
+use r3k_machine::Machine;
+use aegis_limits::ENVIRONMENT_NUMBERS;
 
 impl Board {
     ghost use Rattle.board_model.specs.Loading.{IsBare};
@@ -54,10 +56,11 @@ impl Board {
             claims,
             revocations: Revocations::new(),
             slots: Slots::new(quantum, slots),
-            cpu: Cpu::blank(),
+            machine: Machine::new(),
             roster,
             time: Clock::new(),
             journal,
+            fills: [Fills::none(); ENVIRONMENT_NUMBERS],
         })
     }
 

@@ -24,7 +24,7 @@ impl Board {
     fn answer(&mut self, verdict: Verdict)
         ensures { self.new ≡ after_answer self.old verdict }
     {
-        answer(&mut self.cpu, verdict);
+        answer(&mut self.machine.cpu, verdict);
     }
 
     /// The runner's call is granted with a value, and does this, which it may.
@@ -100,7 +100,7 @@ impl Board {
         match decide(self, env, call) {
             Verdict::Grant(value) => {
                 law_granted();
-                let deed = deed_of(call, value, &self.cpu);
+                let deed = deed_of(call, value, &self.machine.cpu);
                 self.grant(env, value, deed);
             }
             Verdict::Again(who) => {
@@ -120,9 +120,9 @@ impl Board {
         requires numbers { self.old.claims.next < 2 ^ 32 }
         ensures { self.new ≡ after_runner_call self.old env }
     {
-        let number = self.cpu.reg(CALL_NUMBER);
+        let number = self.machine.cpu.reg(CALL_NUMBER);
         if number == EXIT {
-            let code = self.cpu.reg(EXIT_CODE);
+            let code = self.machine.cpu.reg(EXIT_CODE);
             return self.die(env, Cause::Exit(code));
         }
         self.answer_call(env, Call::named(number));

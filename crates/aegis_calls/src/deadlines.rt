@@ -25,6 +25,7 @@ impl Board {
         let _used = self.revocations.backup(env);
         self.pages.release(page);
         self.bindings.break_page(page, None);
+        self.machine.tlb.drop_page(page);
         self.claims.drop_page(page);
         self.journal.push(Row::Take {
             time: self.time.ticks(),

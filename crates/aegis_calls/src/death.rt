@@ -4,7 +4,7 @@ ghost use Rattle.world_model.specs.Book.{running};
 ghost use Rattle.board_model.specs.Sound.{HasNoPart};
 
 use crate::board::Board;
-use board_acts::release_slots;
+use board_acts::{drop_dead, release_slots};
 use world_model::Cause;
 
 impl Board {
@@ -19,6 +19,7 @@ impl Board {
         ensures { self.new ≡ after_burial self.old env cause }
     {
         self.bindings.clear_env(env, &self.pages);
+        drop_dead(&mut self.machine.tlb, &self.pages, env);
         self.pages.release_env(env);
         self.lines.clear(env);
         self.claims.clear_env(env);

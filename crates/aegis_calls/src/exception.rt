@@ -16,7 +16,7 @@ impl Board {
         ensures { self.new ≡ after_trap self.old env exc.now }
     {
         let frame = self.roster.frame(env);
-        if !frame.raise(&mut self.frames, &mut self.cpu, exc) {
+        if !frame.raise(&mut self.frames, &mut self.machine.cpu, exc) {
             self.die(env, Cause::Trapped(exc.code));
         }
     }

@@ -1,24 +1,71 @@
 //! The step of the machine: what it does to the board's parts.
-ghost use Rattle.std.specs.Prelude.{◌≡◌, ◌<◌, ◌^◌, Some};
+ghost use Rattle.std.specs.Prelude.{◌≡◌, ◌<◌, ◌^◌, MatchOption, Some};
 ghost use Rattle.mips_exec.specs.Step.{outcome_of};
 ghost use Rattle.world_model.specs.Book.{running};
 
 use crate::board::Board;
-use board_acts::space_in;
-use guest_step::step_guest;
+use board_acts::{answer_miss, space_in};
+use guest_memory::PAGE_BYTES;
 use mips_exec::Outcome;
+use r3k_machine::MachineEnd;
 
 impl Board {
     ghost use Rattle.board_model.specs.Doing.{after_runner_step, after_machine_step, step_seen};
+    ghost use Rattle.board_model.specs.Refilling.{HasTlb, IsAttempted, IsRefilled, with_lookups};
 
-    /// The machine makes one step for the runner.
+    /// An attempt of the runner's step, in user mode, over the rows of the TLB: how it ended, or None where a row was
+    /// refilled, so that it is to be tried again.
+    fn try_step(&mut self, env: u8) -> Option<Outcome>
+        requires { running self.old.slots.runner ≡ Some env }
+        ensures { MatchOption result (IsRefilled self.old env self.new) (IsAttempted self.old env self.new) }
+    {
+        let random = self.machine.random();
+        self.machine.set_user(env);
+        match self.machine.user_step(&mut self.frames) {
+            MachineEnd::Retired => Some(Outcome::Retired),
+            MachineEnd::Call => Some(Outcome::Call),
+            MachineEnd::Trap(exc) => Some(Outcome::Trap(exc)),
+            MachineEnd::Refill(exc) => {
+                let space = space_in(&self.roster, &self.bindings, env);
+                let is_refilled = answer_miss(
+                    &mut self.machine.tlb,
+                    &mut self.fills,
+                    &space,
+                    random,
+                    exc.bad / PAGE_BYTES,
+                );
+                if is_refilled {
+                    None
+                } else {
+                    Some(Outcome::Trap(exc))
+                }
+            }
+        }
+    }
+
+    /// Law: there are as many rows of the TLB as ever, and Random names one of them.
+    fn law_tlb(&self)
+        ensures { HasTlb self.now }
+    {
+        self.machine.tlb.law_count();
+        let _random = self.machine.random();
+    }
+
+    /// The machine makes one step for the runner. Its accesses go by the TLB, of which at most two rows are refilled.
     pub(crate) fn run_machine(&mut self, env: u8) -> Outcome
         requires { running self.old.slots.runner ≡ Some env }
-        ensures shown { self.new ≡ after_machine_step self.old env (step_seen self.old env) }
+        ensures shown { self.new ≡ after_machine_step (with_lookups self.old env) env (step_seen self.old env) }
         ensures outcome { result ≡ outcome_of (step_seen self.old env) }
     {
-        let space = space_in(&self.roster, &self.bindings, env);
-        step_guest(&mut self.cpu, &mut self.frames, &space)
+        self.law_sound();
+        self.law_tlb();
+        if let Some(outcome) = self.try_step(env) {
+            return outcome;
+        }
+        if let Some(outcome) = self.try_step(env) {
+            return outcome;
+        }
+        self.try_step(env).unwrap()
     }
 
     /// The runner makes a step, and its call or trap is handled.
@@ -26,7 +73,7 @@ impl Board {
         requires runs { running self.old.slots.runner ≡ Some env }
         requires room { 64 < self.old.ledger.spare }
         requires numbers { self.old.claims.next < 2 ^ 32 }
-        ensures { self.new ≡ after_runner_step self.old env (step_seen self.old env) }
+        ensures { self.new ≡ after_runner_step (with_lookups self.old env) env (step_seen self.old env) }
     {
         match self.run_machine(env) {
             Outcome::Retired => {}

@@ -8,7 +8,7 @@ ghost use Rattle.board_model.specs.Sound.{IsOwned};
 
 use crate::board::Board;
 use bind_book::Binding;
-use board_acts::{put, send};
+use board_acts::{drop_bound, put, send};
 use world_model::OwnDeed;
 
 impl Board {
@@ -51,8 +51,10 @@ impl Board {
         requires owned { IsOwned (row_in self.old.pages binding.page) }
         ensures { self.new ≡ with_bound self.old env binding }
     {
-        self.bindings
+        let replaced = self
+            .bindings
             .bind(env, binding.vpn, binding.page, binding.writable);
+        drop_bound(&mut self.machine.tlb, env, binding.vpn, replaced);
     }
 
     /// The binding of a VPN of the runner's goes, if there is one.
@@ -62,5 +64,6 @@ impl Board {
         ensures { self.new ≡ with_unbound self.old env vpn }
     {
         self.bindings.unbind(env, vpn);
+        self.machine.tlb.drop_pair(vpn, env);
     }
 }

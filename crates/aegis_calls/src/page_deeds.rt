@@ -30,6 +30,7 @@ impl Board {
     {
         self.pages.free(env, page).unwrap();
         self.bindings.break_page(page, None);
+        self.machine.tlb.drop_page(page);
         self.claims.drop_page(page);
         self.revocations.freed(env, page);
     }
@@ -51,5 +52,6 @@ impl Board {
     {
         self.pages.recap(env, page, words).unwrap();
         self.bindings.break_page(page, Some(env));
+        self.machine.tlb.drop_page(page);
     }
 }

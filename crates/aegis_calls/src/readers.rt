@@ -90,7 +90,7 @@ impl WorldView for Board {
 
     fn cpu(&self, env: u8) -> Cpu {
         if self.slots.runner() == Some(env) {
-            self.cpu
+            self.machine.cpu
         } else {
             self.roster.at(env).env.kept()
         }

@@ -25,9 +25,9 @@ impl Board {
         requires room { 0 < self.old.ledger.spare }
         ensures { self.new ≡ after_gift self.old env target }
     {
-        let kept = self.cpu;
+        let kept = self.machine.cpu;
         self.slots.donate(target, false);
-        self.cpu = self.roster.frame(target).start(&mut self.frames);
+        self.machine.cpu = self.roster.frame(target).start(&mut self.frames);
         self.roster.keep(env, &kept);
         self.journal.push(Row::Give {
             time: self.time.ticks(),
@@ -57,7 +57,7 @@ impl Board {
         enter(
             &mut self.roster,
             &mut self.frames,
-            &mut self.cpu,
+            &mut self.machine.cpu,
             Entry {
                 env,
                 value,

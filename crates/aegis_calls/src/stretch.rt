@@ -6,9 +6,8 @@ ghost use Rattle.board_model.specs.Stretch.{ArePlain, stretched};
 ghost use Rattle.aegis_calls.specs.QuietTicks.{AreQuietTicks};
 
 use crate::board::Board;
-use board_acts::{plain_most, space_in};
+use board_acts::plain_most;
 use board_model::law_stretch;
-use guest_step::run_guest;
 use world_model::WorldView;
 
 impl Board {
@@ -23,8 +22,8 @@ impl Board {
         ensures most { result ≤ most }
     {
         let most = plain_most(&self.slots, &self.revocations, self.time.ticks(), most);
-        let space = space_in(&self.roster, &self.bindings, env);
-        let ticks = run_guest(&mut self.cpu, &mut self.frames, &space, most);
+        self.machine.set_user(env);
+        let ticks = self.machine.run(&mut self.frames, most);
         self.slots.pass(ticks);
         self.time.pass(ticks);
         ticks

@@ -20,7 +20,7 @@ impl Board {
         requires room { 0 < self.old.ledger.spare }
         ensures { self.new ≡ with_stop_kept self.old env }
     {
-        self.roster.keep(env, &self.cpu);
+        self.roster.keep(env, &self.machine.cpu);
         self.journal.push(Row::Stop {
             time: self.time.ticks(),
             slot: self.slots.slot(),
@@ -46,7 +46,7 @@ impl Board {
         ensures { self.new ≡ record (after_end self.old env) { slots = self.old.slots } }
     {
         let frame = self.roster.frame(env);
-        frame.end(&mut self.frames, &mut self.cpu);
+        frame.end(&mut self.frames, &mut self.machine.cpu);
         self.journal.push(Row::End {
             time: self.time.ticks(),
             slot: self.slots.slot(),

@@ -16,7 +16,7 @@ impl Board {
         requires { env < length self.old.roster.list }
         ensures { self.new ≡ record self.old { frames = start_frames self.old env; cpu = start_registers self.old.roster.list env } }
     {
-        self.cpu = self.roster.frame(env).start(&mut self.frames);
+        self.machine.cpu = self.roster.frame(env).start(&mut self.frames);
     }
 
     /// What comes next in the vector of slots, where nobody runs: a slot is forfeited, or its holder starts.

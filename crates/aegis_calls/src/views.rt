@@ -20,7 +20,7 @@ impl CallView for Board {
     ghost world = { world_of };
 
     fn registers(&self, _env: u8) -> &Cpu {
-        &self.cpu
+        &self.machine.cpu
     }
 
     fn console_size(&self, env: u8) -> usize {

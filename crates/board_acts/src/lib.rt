@@ -8,15 +8,19 @@
 mod answers;
 mod backup;
 mod delivery;
+mod emptying;
 mod output;
 mod reading;
+mod refill;
 mod slot_rows;
 mod transfer;
 
 pub use answers::answer;
 pub use backup::copy_to_backup;
 pub use delivery::deliver;
+pub use emptying::{drop_bound, drop_dead};
 pub use output::{put, send};
 pub use reading::{is_owned, page_behind, plain_most, space_in, unless_empty};
+pub use refill::answer_miss;
 pub use slot_rows::{push_slot, release_slots, settle};
 pub use transfer::{Entry, enter, hand_on};

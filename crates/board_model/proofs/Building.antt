@@ -35,6 +35,8 @@ use Rattle.board_model.specs.declared.roster.Environment.{Environment}
 use Rattle.board_model.specs.Lines.{free_lines}
 use Rattle.board_model.specs.Rings.{ring_in, rings_of}
 use Rattle.board_model.specs.Shown.{Shown, Environments, mappings_of, no_output}
+use Rattle.tlb_model.specs.Cache.{boot_cache}
+use Rattle.board_model.proofs.Rows.{added_rows, emptied_rows_agree}
 use Rattle.board_model.specs.Showing.{book_of, world_of, solo_of, pages_seen, page_seen}
 use Rattle.board_model.specs.Sound.{AreStripesOf, BooksAgree, AreGuaranteed, LinesAgree, IsSoundBoard, SlotsAgree, PagesAgree, IsLiving, IsUndead, has_own_page}
 use Rattle.board_model.specs.Loading.{AreGiven, AreLeft}
@@ -113,6 +115,7 @@ built v pages quantum envs owners cpu ledger = record {
   roster = record { list = []; spare = envs };
   time = 0;
   ledger = ledger;
+  tlb = boot_cache;
 }
 
 -- what it shows
@@ -169,6 +172,7 @@ built_sound v pages quantum envs owners cpu ledger few long slots most all = rec
     some = λ e. subst (λ pending. IfSome pending (λ p. 0 < p.outstanding)) (sym (all_alike no_pending environment_numbers e)) tt;
     owned = λ e page loaded. let none : true ≡ false = sym loaded ∙ ap (λ backups. is_loaded backups page) (all_alike no_backups environment_numbers e) in cc;
   };
+  rows = emptied_rows_agree (zeroed pages) [] (empty_stripes v envs);
 }
 
 -- Pages are given to the environment that is added.
@@ -239,6 +243,7 @@ added_sound b x count frames pages sound gives its lives room = record {
   lines = added_wired b.roster x lives room b.lines sound.lines;
   claims = given_claimed b.claims b.pages pages b.roster (λ p taken. taken_row (length b.roster.list) (row_in b.pages p) (row_in pages p) (given_row (length b.roster.list) count b.pages pages b.frames frames gives p) taken) x (omega (arith, room, length-append b.roster.list (x ∷ []))) sound.claims;
   revocations = given_asked b.revocations b.pages pages (λ p taken. taken_row (length b.roster.list) (row_in b.pages p) (row_in pages p) (given_row (length b.roster.list) count b.pages pages b.frames frames gives p) taken) sound.revocations;
+  rows = added_rows b.frames frames b.pages b.roster x b.binds b.tlb.rows gives.left.size sound.books sound.rows;
 }
 
 module _ (b : Shown) (x : Environment) (frames : List (List ℕ)) (pages : List PageRow) (p : ProgramValue) (sound : IsSoundBoard b) (gives : AreGiven (length b.roster.list) (guaranteed_mappings p) b.pages pages b.frames frames)

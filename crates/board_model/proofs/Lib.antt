@@ -33,6 +33,8 @@ mod Phases
 mod Posting
 pub mod Reading
 pub mod Repossessing
+pub mod Refills
+pub mod Rows
 mod Replying
 pub mod Seen
 pub mod Sending

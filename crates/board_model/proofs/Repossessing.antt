@@ -49,6 +49,7 @@ use Rattle.board_model.proofs.Allowed.{owned_by_none}
 use Rattle.board_model.proofs.Parts.{by_env, set_here, set_else, worlds}
 use Rattle.board_model.proofs.Posting.{context_bytes, left_else, left_here, left_with, same_size, with_left, with_word, worded, worded_others, worded_seen}
 use Rattle.board_model.proofs.Seen.{like_solo, live_record, row_there, live_shown}
+use Rattle.board_model.proofs.Rows.{broken_rows}
 use Rattle.board_model.proofs.Staying.{sound_frames, sound_machine, sound_memory}
 use Rattle.board_model.proofs.Tables.{table_set}
 use Rattle.world_model.specs.Holding.{lost}
@@ -243,11 +244,12 @@ module _ (b : Shown) (sound : IsSoundBoard b) (x : Taking) (may : IsTakable (boo
 
   pub taken_sound : IsSoundBoard gone
   taken_sound =
-      sound_memory _ _ _ _ _
+      sound_memory _ _ _ _ _ _
       (row_parted gone.frames b.pages b.roster.list x.page Free (owned_by_none e (row_in b.pages x.page) may.owned) recorded_sound.memory)
       (free_booked b.pages b.binds b.roster x.page page_there sound.books)
       (freed_claimed b.claims b.pages b.roster x.page page_there sound.claims)
       (taken_asked b.revocations b.pages e x.page (omega (arith, owner_live.0, sound.few)) page_there may.owned may.spared sound.revocations)
+      (broken_rows gone.frames b.roster.list b.binds b.tlb.rows x.page None recorded_sound.rows)
       (sound_machine recorded_sound)
 
 -- What is taken is taken one after another.

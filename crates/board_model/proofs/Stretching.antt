@@ -14,6 +14,7 @@ use Rattle.guest_memory.specs.Steps.{Machine, after_steps, next_step}
 use Rattle.revocation_book.specs.Pending.{earliest_in}
 use Rattle.revocation_book.specs.RevocationBook.{RevocationBook, is_any_due, next_deadline}
 use Rattle.revocation_book.proofs.Earliest.{due_by_earliest, has_come}
+use Rattle.r3k_cp0.specs.Random.{fallen_times}
 use Rattle.slot_vector.specs.Slices.{Slices, after_ticks, left_of}
 use Rattle.world_model.specs.declared.slot.Runner.{Runner}
 use Rattle.world_model.specs.Book.{is_idle_book, running}
@@ -33,7 +34,7 @@ use Rattle.board_model.proofs.Phases.{quiet_world}
 use Rattle.board_model.proofs.Repossessing.{nothing_due}
 use Rattle.board_model.proofs.Seen.{runner_runs}
 use Rattle.board_model.proofs.Stepping.{retired_step}
-use Rattle.board_model.proofs.Staying.{sound_frames, sound_machine, sound_slots}
+use Rattle.board_model.proofs.Staying.{sound_frames, sound_machine, sound_slots, sound_tlb}
 
 step_size : (frames : List (List ℕ)) (lookup : ℕ → Option Mapping) (w : Option Write) → length (frames_after frames lookup w) ≡ length frames
 step_size frames lookup w = search (rules, length-set)
@@ -63,7 +64,7 @@ passed_manned v r k manned some = search rules
 
 pub stretch_sound : (b : Shown) (e k : ℕ) → IsSoundBoard b → k < left_of b.slots.runner → IsSoundBoard (stretched b e k)
 stretch_sound b e k sound some =
-    sound_machine (sound_slots _ (passed_manned b.slots b.roster k sound.book some) (sound_frames _ (steps_size (lookup_of b e) (machine_of b) k) sound))
+    sound_machine (sound_slots _ (passed_manned b.slots b.roster k sound.book some) (sound_frames _ (steps_size (lookup_of b e) (machine_of b) k) (sound_tlb (record b.tlb { random = fallen_times b.tlb.random k }) sound.rows sound)))
 
 -- before the next deadline none has come
 not_come : (t : ℕ) (deadline : Option ℕ) → t < unwrap_or deadline 4294967295 → has_come t deadline ≡ false

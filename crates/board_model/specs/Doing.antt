@@ -40,7 +40,7 @@ use Rattle.page_book.specs.declared.row.Capabilities.{Capabilities}
 use Rattle.page_book.specs.Row.{released}
 use Rattle.page_book.specs.Rows.{row_in}
 use Rattle.bind_book.specs.declared.binding.Binding.{Binding}
-use Rattle.bind_book.specs.Stripe.{goes_with, leads_to_page, swept, unbound, with_binding_in}
+use Rattle.bind_book.specs.Stripe.{goes_with, leads_to_page, row_of, stripes, swept, unbound, with_binding_in}
 use Rattle.guest_memory.specs.Look.{look, frames_after, guest_step}
 use Rattle.guest_memory.specs.Space.{lookup}
 use Rattle.slot_vector.specs.declared.turn.NextTurn.{NextTurn}
@@ -75,6 +75,7 @@ use Rattle.world_model.specs.SlotCalls.{dropped, held_by, slot_row}
 use Rattle.world_model.specs.Call.{called, exit_number}
 use Rattle.board_model.specs.declared.roster.Environment.{Environment}
 use Rattle.board_model.specs.Lines.{line_at}
+use Rattle.tlb_model.specs.Flushes.{OfEnv, OfPage, OfPair, flushed_all, replaced_pair}
 use Rattle.board_model.specs.Shown.{Shown, mappings_of, handlers_of, registers_of, with_record, with_list}
 use Rattle.board_model.specs.Showing.{world_of}
 
@@ -268,8 +269,8 @@ ledger_after_release t e v ledger =
 abbrev pub after_release : Shown → ℕ → Shown
 after_release b e = record b { slots = without_env e b.slots; ledger = ledger_after_release b.time e b.slots b.ledger }
 
--- Its pages are free, neither its bindings nor those of its pages are left, its lines are nobody's, its claims are
--- withdrawn, nothing is asked of it, and its registers and mappings go.
+-- Its pages are free, neither its bindings nor those of its pages are left, nor are its rows of the TLB and those of its
+-- pages; its lines are nobody's, its claims are withdrawn, nothing is asked of it, and its registers and mappings go.
 abbrev pub after_burial : Shown → ℕ → Cause → Shown
 after_burial b e cause = record b {
   pages = map (released e) b.pages;
@@ -278,6 +279,7 @@ after_burial b e cause = record b {
   claims = without (is_of_env e) b.claims;
   revocations = once_gone b.revocations e;
   roster = with_list b.roster (with_record (dead_frame cause) b.roster.list e);
+  tlb = flushed_all (OfEnv (row_in b.pages) e ∷ []) b.tlb;
 }
 
 -- both
@@ -389,10 +391,14 @@ abbrev pub with_allocated : Shown → ℕ → ℕ → Capabilities → Shown
 with_allocated b e page words =
     record b { frames = with_page b.frames page zero_page; pages = slice_set b.pages page (Owned e words) }
 
--- Free and recap: the page has another row, and the bindings of it are broken, but for those of one environment.
+-- Free and recap: the page has another row, and the bindings of it are broken, but for those of one environment; the
+-- TLB's rows of it are emptied.
 abbrev pub with_broken : Shown → ℕ → PageRow → Option ℕ → Shown
-with_broken b page row but =
-    record b { pages = slice_set b.pages page row; binds = swept (leads_to_page page but) b.binds }
+with_broken b page row but = record b {
+  pages = slice_set b.pages page row;
+  binds = swept (leads_to_page page but) b.binds;
+  tlb = flushed_all (OfPage page ∷ []) b.tlb;
+}
 
 -- Free: the page is nobody's, and the claims whose ring it is are withdrawn.
 abbrev pub with_freed : Shown → ℕ → Shown
@@ -445,13 +451,17 @@ abbrev pub with_downloaded : Shown → ℕ → ℕ → ℕ → ℕ → Shown
 with_downloaded b e claim address words =
     record b { claims = downloaded claim (handler_or_none (handler_at (look_of b e) address words)) b.claims }
 
--- Bind: the binding stands in its row.
+-- Bind: the binding stands in its row, and the TLB's rows of its pair and of the one that stood there are emptied.
 abbrev pub with_bound : Shown → ℕ → Binding → Shown
-with_bound b e x = record b { binds = with_binding_in b.binds e x }
+with_bound b e x = record b {
+  binds = with_binding_in b.binds e x;
+  tlb = flushed_all (OfPair x.vpn e ∷ replaced_pair e (stripes b.binds e (row_of b.binds.version x.vpn))) b.tlb;
+}
 
--- Unbind: the row of the VPN is empty, if its binding stood there.
+-- Unbind: the row of the VPN is empty, if its binding stood there, and so is the TLB's row of its pair.
 abbrev pub with_unbound : Shown → ℕ → ℕ → Shown
-with_unbound b e vpn = record b { binds = unbound b.binds e vpn }
+with_unbound b e vpn =
+    record b { binds = unbound b.binds e vpn; tlb = flushed_all (OfPair vpn e ∷ []) b.tlb }
 
 -- a call of the runner that is granted with a value, once this is done
 abbrev pub after_grant : Shown → ℕ → ℕ → Deed → Shown

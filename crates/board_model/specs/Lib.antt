@@ -7,5 +7,6 @@ pub mod Sound
 pub mod Doing
 pub mod Loading
 pub mod Laws
+pub mod Refilling
 pub mod Stretch
 pub mod Ticks

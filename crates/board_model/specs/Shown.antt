@@ -13,6 +13,7 @@ use Rattle.env_frames.specs.Frame.{EnvValue}
 use Rattle.filter_tree.specs.ClaimBook.{ClaimBook}
 use Rattle.revocation_book.specs.RevocationBook.{RevocationBook}
 use Rattle.world_model.specs.declared.life.Life.TheVariants.{Live}
+use Rattle.tlb_model.specs.Cache.{Cache}
 use Rattle.board_model.specs.declared.output.Output.{Output}
 use Rattle.board_model.specs.declared.roster.Environment.{Environment}
 
@@ -23,7 +24,7 @@ pub record Environments : Type 0 where
 
 -- The pages of physical memory; whose each of them is; the stripes of bindings; whose the interrupt lines
 -- are; the claims that stand; what is asked of environments, and their backups; the vector of slots; the registers of
--- the machine; the environments; the time; and the ledger.
+-- the machine; the environments; the time; the ledger; and the TLB.
 pub record Shown : Type 0 where
   pub frames : List (List ℕ)
   pub pages : List PageRow
@@ -36,6 +37,7 @@ pub record Shown : Type 0 where
   pub roster : Environments
   pub time : ℕ
   pub ledger : Ledger
+  pub tlb : Cache
 
 abbrev pub mappings_in : Option Environment → List Mapping
 mappings_in None = []

@@ -15,6 +15,9 @@ use Rattle.bind_book.specs.declared.binding.Binding.{Binding}
 use Rattle.bind_book.specs.Stripe.{Stripes, stripes}
 use Rattle.env_frames.specs.declared.mapping.Mapping.{Mapping}
 use Rattle.env_frames.specs.Frame.{IsRising, numbers}
+use Rattle.guest_memory.specs.Look.{mapping_in}
+use Rattle.r3k_tlb.specs.declared.row.Row.{Row}
+use Rattle.tlb_model.specs.Coherence.{AreCoherent}
 use Rattle.slot_vector.specs.Slices.{Slices, HasTicks, excess_of, hold_at}
 use Rattle.world_model.specs.Book.{has_part, is_runner, running}
 use Rattle.world_model.specs.declared.life.Life.TheVariants.{Live}
@@ -97,6 +100,14 @@ pub record RevocationsAgree (book : RevocationBook) (pages : List PageRow) : Typ
   pub some : (e : ℕ) → IfSome (pending_at book e) (λ p. 0 < p.outstanding)
   pub owned : (e page : ℕ) → is_loaded (backups_at book e) page ≡ true → is_owned_by e (row_in pages page) ≡ true
 
+-- the mapping of an environment's VPN
+abbrev pub leads_in : List Environment → Stripes → ℕ → ℕ → Option Mapping
+leads_in list binds e vpn = mapping_in binds.version (mappings_of list e) (stripes binds e) vpn
+
+-- The rows of the TLB: none outlives its mapping.
+pub record RowsAgree (frames : List (List ℕ)) (list : List Environment) (binds : Stripes) (rows : List Row) : Type 0 where
+  pub coherent : AreCoherent (leads_in list binds) (length frames) rows
+
 -- no slot is an environment's, and it doesn't run
 pub record HasNoPart (e : ℕ) (v : Slices) : Type 0 where
   pub runs : is_runner e v.runner ≡ false
@@ -111,6 +122,7 @@ pub record IsSoundBoard (b : Shown) : Type 0 where
   pub lines : LinesAgree b.lines b.roster.list
   pub claims : AreClaimed b.claims b.pages b.roster
   pub revocations : RevocationsAgree b.revocations b.pages
+  pub rows : RowsAgree b.frames b.roster.list b.binds b.tlb.rows
 
 -- a sound board on which an environment runs
 pub record HasRunner (b : Shown) (e : ℕ) : Type 0 where

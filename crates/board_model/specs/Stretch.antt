@@ -2,6 +2,7 @@
 use Rattle.std.specs.Prelude.{◌≡◌, ◌≤◌, ◌<◌, ℕ, ◌+◌, ◌-◌, []}
 use Rattle.guest_memory.specs.Steps.{AllRetire, Machine, after_steps}
 use Rattle.revocation_book.specs.RevocationBook.{next_deadline}
+use Rattle.r3k_cp0.specs.Random.{fallen_times}
 use Rattle.slot_vector.specs.Slices.{after_ticks, left_of}
 use Rattle.world_model.specs.Event.{Schedule}
 use Rattle.run_model.specs.Run.{world_after_ticks}
@@ -21,6 +22,7 @@ stretched b e ticks = let m = after_steps (lookup_of b e) (machine_of b) ticks i
   cpu = m.cpu;
   slots = after_ticks ticks b.slots;
   time = b.time + ticks;
+  tlb = record b.tlb { random = fallen_times b.tlb.random ticks };
 }
 
 -- The next ticks, so many, are plain: each step retires, the slice doesn't end, and no deadline comes.

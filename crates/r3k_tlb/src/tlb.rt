@@ -45,6 +45,13 @@ impl Tlb {
         }
     }
 
+    /// Law: there are so many rows.
+    pub fn law_count(&self)
+        ensures { length self.now ≡ row_count }
+    {
+        let _ = &self.rows;
+    }
+
     /// The number of the lowest row that fits this virtual page and process.
     pub fn probe(&self, vpn: u32, pid: u8) -> Option<u8>
         ensures answer { result ≡ first_fitting_place vpn pid self.now }

@@ -5,12 +5,13 @@ use Rattle.page_book.specs.Rows.{row_in}
 use Rattle.board_model.specs.Shown.{Shown}
 use Rattle.board_model.specs.Sound.{IsOwned}
 use Rattle.board_model.proofs.Booked.{has_stripe, set_booked}
+use Rattle.board_model.proofs.Rows.{bound_rows}
 use Rattle.board_model.proofs.Staying.{sound_binds}
 use Rattle.aegis_calls.proofs.Runner.{runner_live, seen}
 use Rattle.aegis_calls.proofs.board.Board.bind.Goals as goal
 
-pub bind-requires-clause-stripe : goal.bind-requires-clause-stripe
-bind-requires-clause-stripe c =
+pub bind-replaced-requires-clause-stripe : goal.bind-replaced-requires-clause-stripe
+bind-replaced-requires-clause-stripe c =
     let b = seen c.self.view_is in
     let there = (runner_live c.self.view_is c.self.invariant c.requires.runs).0 in
     has_stripe b.binds (length b.roster.list + b.roster.spare) c.args.env c.self.invariant.books.striped (omega (arith, there))
@@ -22,4 +23,6 @@ invariant_of-self c =
     let there = lives.0 in
     let has = has_stripe b.binds (length b.roster.list + b.roster.spare) c.args.env c.self.invariant.books.striped (omega (arith, there)) in
     let owned = subst (λ (s : Shown). IsOwned (row_in s.pages c.args.binding.page)) (sym c.self.view_is) c.requires.owned in
-    rw c.bind.ensures.after (sound_binds _ (set_booked _ _ _ c.args.env _ _ has (row_within b.binds.version c.args.binding.vpn) lives owned c.self.invariant.books) c.self.invariant)
+    rw (c.drop_bound.ensures, c.bind-replaced.ensures.replaced, c.bind-replaced.ensures.after)
+    (sound_binds _ _ (set_booked _ _ _ c.args.env _ _ has (row_within b.binds.version c.args.binding.vpn) lives owned c.self.invariant.books)
+    (bound_rows b.frames b.roster.list b.binds b.tlb.rows c.args.env c.args.binding has c.self.invariant.rows) c.self.invariant)

@@ -19,5 +19,5 @@ invariant_of-self c =
     rw (c.keep.ensures, c.donate.ensures)
     (sound_machine
     (sound_frames _ c.start-self-inside.ensures.size
-    (sound_env (with_registers b.cpu) (keeps_registers b.cpu) c.args.env
+    (sound_env (with_registers b.machine.cpu) (keeps_registers b.machine.cpu) c.args.env
     (sound_slots _ (given_manned b.slots b.roster c.args.target false c.self.invariant.book live) c.self.invariant))))

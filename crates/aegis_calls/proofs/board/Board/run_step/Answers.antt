@@ -5,6 +5,7 @@ use Rattle.mips_exec.specs.declared.exception.Outcome.TheVariants as outcome
 use Rattle.mips_exec.specs.Step.{Step, outcome_of}
 use Rattle.board_model.specs.Shown.{Shown}
 use Rattle.board_model.specs.Doing.{after_runner_step, after_machine_step, step_seen, after_trap}
+use Rattle.board_model.specs.Refilling.{with_lookups}
 use Rattle.board_model.proofs.Stepping.{came_called}
 use Rattle.aegis_calls.proofs.board.Board.run_step.Goals as goal
 
@@ -16,7 +17,7 @@ came_trapped : (b : Shown) (e : ℕ) (step : Step) (exc : Exc) → outcome_of st
 came_trapped b e step exc is = search rules
 
 pub returns-in-Retired : goal.returns-in-Retired
-returns-in-Retired c = c.run_machine.ensures.shown ∙ came_retired c.args.self.now c.args.env (step_seen c.args.self.now c.args.env) (sym c.run_machine.ensures.outcome ∙ c.in-Retired.is)
+returns-in-Retired c = c.run_machine.ensures.shown ∙ came_retired (with_lookups c.args.self.now c.args.env) c.args.env (step_seen c.args.self.now c.args.env) (sym c.run_machine.ensures.outcome ∙ c.in-Retired.is)
 
 pub returns-in-Call : goal.returns-in-Call
 returns-in-Call c = search (rules, came_called)

@@ -33,5 +33,5 @@ release-requires c = owner_there _ c.self.invariant c.args.taking (may c.self.vi
 
 pub invariant_of-self : goal.invariant_of-self
 invariant_of-self c =
-    rw (c.record.ensures.frames, c.frame-frame.ensures.mappings, c.copy_to_backup.ensures.frames, c.release.ensures, c.break_page.ensures.after, c.drop_page.ensures, c.backup-used.ensures.after, c.push.ensures, c.ticks.ensures.ticks)
+    rw (c.record.ensures.frames, c.frame-frame.ensures.mappings, c.copy_to_backup.ensures.frames, c.release.ensures, c.break_page.ensures.after, c.drop_page.ensures, c.drop_page-2.ensures, c.backup-used.ensures.after, c.push.ensures, c.ticks.ensures.ticks)
     (taken_sound _ c.self.invariant c.args.taking (may c.self.view_is c.requires.may))

@@ -1,0 +1,55 @@
+//! Which rows of the TLB are emptied where mappings go.
+ghost use Rattle.std.specs.Prelude.{◌≡◌, ◌∷◌, []};
+ghost use Rattle.page_book.specs.Row.{belongs_to};
+ghost use Rattle.page_book.specs.Rows.{row_in};
+ghost use Rattle.tlb_model.specs.Flushes.{OfEnv, OfPair, all_flushed, replaced_pair};
+
+use bind_book::Binding;
+use page_book::Pages;
+use r3k_tlb::{Row, RowTest, Tlb};
+
+/// The rows of an environment and of its pages, by the book of pages.
+#[derive(Drop)]
+struct OfDead<'a> {
+    pages: &'a Pages,
+    env: u8,
+}
+
+impl RowTest for OfDead<'_> {
+    ghost use Rattle.page_book.specs.Rows.{row_in};
+    ghost use Rattle.tlb_model.specs.Flushes.{is_of_env};
+
+    ghost test = { λ d. is_of_env (row_in d.pages.now) d.env };
+
+    fn holds(&self, row: Row) -> bool {
+        row.pid() == self.env || is_of_owner(self.pages, row.page(), self.env)
+    }
+}
+
+/// Whether a page is an environment's, guaranteed to it or not.
+fn is_of_owner(pages: &Pages, page: u32, env: u8) -> bool
+    ensures { result ≡ belongs_to env (row_in pages.now page) }
+{
+    match pages.row(page) {
+        Some(row) => row.belongs_to(env),
+        None => false,
+    }
+}
+
+/// Empties the rows of an environment that dies and of its pages. The book of pages is the one from before its pages are
+/// released.
+pub fn drop_dead(tlb: &mut Tlb, pages: &Pages, env: u8)
+    ensures { tlb.new ≡ all_flushed (OfEnv (row_in pages.now) env ∷ []) tlb.old }
+{
+    tlb.drop_where(&OfDead { pages, env });
+}
+
+/// Empties the rows of the pair that is bound, and of the binding that it replaces.
+pub fn drop_bound(tlb: &mut Tlb, env: u8, vpn: u32, replaced: Option<Binding>)
+    ensures { tlb.new ≡ all_flushed (OfPair vpn env ∷ replaced_pair env replaced) tlb.old }
+{
+    tlb.drop_pair(vpn, env);
+    if let Some(binding) = replaced {
+        tlb.drop_pair(binding.vpn, env);
+    }
+}
