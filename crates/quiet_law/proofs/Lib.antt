@@ -1,0 +1,13 @@
+mod Booting
+mod Clear
+mod Early
+mod Nothing
+mod Others
+mod Own
+mod Passing
+mod Rest
+mod Same
+mod Slicing
+mod Ticks
+mod Timing
+mod Turning

@@ -1,0 +1,179 @@
+-- Tick by tick: what a quiet environment was given, and the rest of its slice, are what it makes alone.
+use Rattle.std.proofs.Common.{◌≡◌, ◌<◌, ◌≤◌, ◌+◌, ℕ, zero, suc, [], ◌++◌, Bool, true, false, Option, None, Some, refl, sym, ◌∙◌, ap, subst, arith}
+use Rattle.std.specs.Prelude.{◌||◌, ◌&&◌, not, if◌then◌else◌, is_none}
+use Rattle.std.specs.List.{list_any}
+use Rattle.std.proofs.lemmas.Bool.{and_parts, not-true, or_parts}
+use Rattle.std.proofs.lemmas.List.{append-nil}
+use Rattle.revocation_book.specs.Richest.{RichestHasMost}
+use Rattle.revocation_book.specs.Takings.{TakingsAreTakable}
+use Rattle.call_verdicts.specs.Granted.{AgainAsks, GrantedMay}
+use Rattle.world_model.specs.declared.call.Call.{Call}
+use Rattle.world_model.specs.declared.slot.Runner.{Runner}
+use Rattle.world_model.specs.Book.{is_idle_book, is_runner, next_held_turn}
+use Rattle.world_model.specs.PageCalls.{revocations}
+use Rattle.world_model.specs.Solo.{Solo}
+use Rattle.world_model.specs.Step.{Calls}
+use Rattle.world_model.specs.Tick.{served, turn}
+use Rattle.world_model.specs.World.{World, in_turn, run_phases}
+use Rattle.run_model.specs.Acting.{Acts}
+use Rattle.run_model.specs.Boot.{boot_items, boot_world}
+use Rattle.run_model.specs.Excess.{IsAccounted}
+use Rattle.run_model.specs.Run.{IsFoldOfFeed, System, after_phase, feed, happens_in, items_in, next_phases, once_happened, takings_next, world_after}
+use Rattle.run_model.proofs.Balance.{boots_accounted, ticks_keep_accounts}
+use Rattle.run_model.proofs.Phases.{moments_in_order}
+use Rattle.quiet_law.specs.Alone.{Course, is_quiet_call, items_first, quiet_course, slice_alone, slice_behind, slice_over}
+use Rattle.quiet_law.specs.Quiet.{IsQuiet}
+use Rattle.quiet_law.specs.Slices.{IsEndOf, begins_in, begins_slice, ends_in, runs_after, slices}
+use Rattle.quiet_law.proofs.Booting.{boot_imaged, boot_still}
+use Rattle.quiet_law.proofs.Rest.{rest_if, rest_in}
+use Rattle.quiet_law.proofs.Ticks.{Begins, GoesOn, IsStill, Out, Tells, Told, items_twice, rest_at, tick_tells}
+
+-- a board on which nobody runs and no slot is held stays as it is
+idle_runs : (e : ℕ) (o : Option Runner) (none : Bool) → (is_none o && none) ≡ true → is_runner e o ≡ false
+idle_runs e None none idle = refl
+idle_runs e (Some r) none idle = cc
+
+-- where the environment doesn't run nothing is to come
+pub rest_out : (e quantum excess : ℕ) (o : Option Runner) (s : Solo) → is_runner e o ≡ false → rest_in e quantum excess o s ≡ slice_over excess
+rest_out e quantum excess None s out = refl
+rest_out e quantum excess (Some r) s out = ap (λ (t : Bool). rest_if t quantum excess r.left r.phase s) out
+
+module _ (granted : GrantedMay) (again : AgainAsks) (rich : RichestHasMost) (takable : TakingsAreTakable) (system : System) (e most : ℕ) (some : 0 < system.image.quantum) (quiet : IsQuiet system e most) where
+  abbrev q : ℕ
+  q = system.image.quantum
+
+  -- Before a tick nothing in the world reaches it.
+  pub record IsReady (t : ℕ) : Type 0 where
+    pub still : IsStill e (world_after system t)
+    pub quantum : (world_after system t).book.quantum ≡ q
+
+  accounted : (t : ℕ) → IsAccounted (world_after system t)
+  accounted t = ticks_keep_accounts granted system.schedule (boot_world system.image) (boots_accounted system.image) t
+
+  -- its calls in a tick are quiet
+  quiet_now : (t : ℕ) → t < most → let w = world_after system t in let x = after_phase turn (served (once_happened system.schedule w)) in (c : Option Call) → Acts x e (Calls c) → is_quiet_call (x.solos e).cpu c ≡ true
+  quiet_now t below =
+      let order = moments_in_order system t in
+      subst (λ (x : World). (c : Option Call) → Acts x e (Calls c) → is_quiet_call (x.solos e).cpu c ≡ true)
+      (order.turned ∙ ap (after_phase turn) (order.served ∙ ap served order.happened)) (λ c acts. quiet.calls t c below acts)
+
+  tick_told : (t : ℕ) → t < most → IsReady t → Tells e (world_after system t) (world_after system (suc t)) (items_in system t e)
+  tick_told t below ready = by_idle (is_idle_book (world_after system t).book) refl
+    where
+      by_idle : (idle : Bool) → is_idle_book (world_after system t).book ≡ idle
+          → (let x = world_after system t in Tells e x (if idle then x else run_phases x (next_phases system.schedule x)) (if idle then [] else (in_turn (next_phases system.schedule x) x).items e))
+      by_idle true idle =
+          let x = world_after system t in
+          let out = idle_runs e x.book.runner (is_none (next_held_turn x.book)) idle in
+          record { still = ready.still; quantum = refl; told = Out out refl out }
+      by_idle false busy =
+          let x = world_after system t in
+          let v = once_happened system.schedule x in
+          tick_tells granted again rich e x ready.still (accounted t) (subst (λ n. 0 < n) (sym ready.quantum) some)
+          (happens_in system.schedule x) (quiet.unasked x.book.time) (takings_next system.schedule x) (takable (revocations v.book) v.book.time v.count) (quiet_now t below)
+
+  pub ready : (t : ℕ) → t ≤ most → IsReady t
+  ready zero below = record { still = boot_still system.image e quiet.deaf; quantum = (boot_imaged system.image).quantum }
+  ready (suc t) below =
+      let before = ready t (omega (arith, below)) in
+      let tells = tick_told t (omega (arith, below)) before in
+      record { still = tells.still; quantum = tells.quantum ∙ before.quantum }
+
+  -- What it was given, and the rest of its slice where it runs, are what it makes alone.
+  abbrev course : ℕ → Course
+  course n = quiet_course e (boot_items system.image e) q n
+
+  abbrev so_far : ℕ → Course
+  so_far t = items_first (feed system e t) (rest_at e q (world_after system t))
+
+  pub record IsAlone (t : ℕ) : Type 0 where
+    pub runs : runs_after system e t ≡ true → so_far t ≡ course (suc (slices system e t))
+    pub waits : runs_after system e t ≡ false → feed system e t ≡ (course (slices system e t)).items
+
+  -- behind a tick in which it runs, or in which its slice begins
+  one_more : (n : ℕ) → n + 1 ≡ suc n
+  one_more n = omega arith
+
+  goes_on : (t : ℕ) → (runs_after system e t || begins_in system e t) ≡ true → so_far (suc t) ≡ course (suc (slices system e t)) → IsAlone (suc t)
+  goes_on t in_slice is = record {
+    runs = λ on. is ∙ ap (λ n. course (suc n)) (sym (counted true false on (ap (λ (own : Bool). own && not true) in_slice) ∙ nothing_more));
+    waits = λ off.
+        sym (append-nil (feed system e (suc t)))
+        ∙ ap (λ (rest : Course). feed system e (suc t) ++ rest.items) (sym (rest_out e q ((world_after system (suc t)).book.excess e) (world_after system (suc t)).book.runner ((world_after system (suc t)).solos e) off))
+        ∙ ap (λ (c : Course). c.items) is
+        ∙ ap (λ n. (course n).items) (sym (counted false true off (ap (λ (own : Bool). own && not false) in_slice) ∙ one_more (slices system e t)));
+  }
+    where
+      nothing_more : slices system e t + 0 ≡ slices system e t
+      nothing_more = omega arith
+
+      counted : (runs ends : Bool) → runs_after system e (suc t) ≡ runs → ((runs_after system e t || begins_in system e t) && not runs) ≡ ends → slices system e (suc t) ≡ slices system e t + (if ends then 1 else 0)
+      counted runs ends is ended = ap (λ (r : Bool). slices system e t + (if (runs_after system e t || begins_in system e t) && not r then 1 else 0)) is ∙ ap (λ (b : Bool). slices system e t + (if b then 1 else 0)) ended
+
+  module _ (fold : IsFoldOfFeed) where
+    in_slice : (t : ℕ) → t < most → IsAlone t → (runs_after system e t || begins_in system e t) ≡ true → so_far (suc t) ≡ course (suc (slices system e t))
+    in_slice t below alone active = by_told (tick_told t below before).told
+      where
+        before : IsReady t
+        before = ready t (omega (arith, below))
+
+        by_told : Told e (world_after system t) (world_after system (suc t)) (items_in system t e) → so_far (suc t) ≡ course (suc (slices system e t))
+        by_told (GoesOn own is) =
+            sym (ap (items_first (feed system e t)) (ap (λ n. rest_at e n (world_after system t)) (sym before.quantum) ∙ is ∙ ap (λ n. items_first (items_in system t e) (rest_at e n (world_after system (suc t)))) before.quantum)
+            ∙ items_twice (feed system e t) (items_in system t e) (rest_at e q (world_after system (suc t))))
+            ∙ alone.runs own
+        by_told (Begins other begins is) =
+            sym (ap (items_first (feed system e t)) (ap (λ n. slice_alone n ((world_after system t).solos e)) (sym before.quantum) ∙ is ∙ ap (λ n. items_first (items_in system t e) (rest_at e n (world_after system (suc t)))) before.quantum)
+            ∙ items_twice (feed system e t) (items_in system t e) (rest_at e q (world_after system (suc t))))
+            ∙ ap (λ s. items_first (feed system e t) (slice_alone q s)) (fold system t e)
+            ∙ ap (slice_behind e q) (alone.waits other)
+        by_told (Out other none out) =
+            let clash : false ≡ true = sym (ap (λ (own : Bool). own || begins_in system e t) other ∙ ap (list_any begins_slice) none) ∙ active in cc
+
+    -- or given nothing
+    waits_on : (t : ℕ) → (runs_after system e t || begins_in system e t) ≡ false → items_in system t e ≡ [] → runs_after system e (suc t) ≡ false → IsAlone t → IsAlone (suc t)
+    waits_on t idle none out alone =
+        let parts = or_parts (runs_after system e t) (begins_in system e t) idle in
+        let no_end : ends_in system e t ≡ false = ap (λ (active : Bool). active && not (runs_after system e (suc t))) idle in
+        let same : slices system e (suc t) ≡ slices system e t = ap (λ (ends : Bool). slices system e t + (if ends then 1 else 0)) no_end ∙ omega arith in
+        record {
+          runs = λ on. (let clash : true ≡ false = sym on ∙ out in cc);
+          waits = λ off. ap (λ items. feed system e t ++ items) none ∙ append-nil (feed system e t) ∙ alone.waits parts.0 ∙ ap (λ n. (course n).items) (sym same);
+        }
+
+    module _ (t : ℕ) (few : t < most) (before : IsAlone t) where
+      by_told : (runs_after system e t || begins_in system e t) ≡ false → Told e (world_after system t) (world_after system (suc t)) (items_in system t e) → IsAlone (suc t)
+      by_told idle (GoesOn own is) = let clash : true ≡ false = sym own ∙ (or_parts (runs_after system e t) (begins_in system e t) idle).0 in cc
+      by_told idle (Begins other begins is) = let clash : true ≡ false = sym begins ∙ (or_parts (runs_after system e t) (begins_in system e t) idle).1 in cc
+      by_told idle (Out other none out) = waits_on t idle none out before
+
+      by_active : (active : Bool) → (runs_after system e t || begins_in system e t) ≡ active → IsAlone (suc t)
+      by_active true active = goes_on t active (in_slice t few before active)
+      by_active false idle = by_told idle (tick_told t few (ready t (omega (arith, few)))).told
+
+    pub alone : (t : ℕ) → t ≤ most → IsAlone t
+    alone zero below = record {
+      runs = λ on. (let clash : true ≡ false = sym on ∙ ap (is_runner e) (boot_imaged system.image).runner in cc);
+      waits = λ off. refl;
+    }
+    alone (suc t) below = by_active t (omega (arith, below)) (alone t (omega (arith, below))) (runs_after system e t || begins_in system e t) refl
+
+    -- At the end of a slice it was given what it makes alone, and owes it.
+    pub at_slice_end : (n t : ℕ) → t ≤ most → IsEndOf system e n t → record { items = feed system e t; excess = (world_after system t).book.excess e } ≡ course n
+    at_slice_end n zero below ends =
+        ap (λ (f : ℕ → ℕ). record { items = boot_items system.image e; excess = f e }) (boot_imaged system.image).excess ∙ ap course ends.reached
+    at_slice_end n (suc t) below ends = by_end (ends_in system e t) refl
+      where
+        by_end : (ended : Bool) → ends_in system e t ≡ ended → record { items = feed system e (suc t); excess = (world_after system (suc t)).book.excess e } ≡ course n
+        by_end true ended =
+            let parts = and_parts (runs_after system e t || begins_in system e t) (not (runs_after system e (suc t))) ended in
+            let out : runs_after system e (suc t) ≡ false = not-true (runs_after system e (suc t)) parts.1 in
+            let v = world_after system (suc t) in
+            let number : suc (slices system e t) ≡ n = sym (one_more (slices system e t)) ∙ ap (λ (b : Bool). slices system e t + (if b then 1 else 0)) (sym ended) ∙ ends.reached in
+            ap (λ items. record { items = items; excess = v.book.excess e }) (sym (append-nil (feed system e (suc t))))
+            ∙ ap (items_first (feed system e (suc t))) (sym (rest_out e q (v.book.excess e) v.book.runner (v.solos e) out))
+            ∙ in_slice t (omega (arith, below)) (alone t (omega (arith, below))) parts.0
+            ∙ ap course number
+        by_end false on =
+            let same : slices system e t ≡ n = omega arith ∙ ap (λ (b : Bool). slices system e t + (if b then 1 else 0)) (sym on) ∙ ends.reached in
+            absurd (omega (arith, ends.fewest t (omega arith), same))

@@ -1,0 +1,56 @@
+-- An environment that asks nothing of others, and of which nobody asks anything.
+use Rattle.std.specs.Prelude.{◌≡◌, ◌<◌, ℕ, Bool, true, false, ◌==◌, Option}
+use Rattle.std.specs.List.{list_any}
+use Rattle.external_event.specs.declared.event.Occurrence.{Occurrence}
+use Rattle.external_event.specs.declared.event.Occurrence.TheVariants as outside
+use Rattle.world_model.specs.declared.call.Call.{Call}
+use Rattle.world_model.specs.Step.{Calls}
+use Rattle.run_model.specs.Acting.{Acts}
+use Rattle.run_model.specs.Boot.{boot_items, boot_world}
+use Rattle.run_model.specs.Run.{System, at_step, feed, world_after}
+use Rattle.quiet_law.specs.Alone.{is_quiet_call, quiet_excess, quiet_feed}
+use Rattle.quiet_law.specs.Slices.{IsEndOf}
+
+-- whether a revocation names the environment
+abbrev pub is_asking : ℕ → Occurrence → Bool
+is_asking e (outside.Packet packet) = false
+is_asking e (outside.Line line) = false
+is_asking e (outside.Revoke env count grace) = env == e
+
+-- In the ticks below t all calls of the environment are quiet; it accepts nobody at boot; and no revocation of the
+-- schedule names it.
+pub record IsQuiet (system : System) (e t : ℕ) : Type 0 where
+  pub calls : (u : ℕ) (call : Option Call) → u < t → Acts (at_step system u) e (Calls call)
+      → is_quiet_call ((at_step system u).solos e).cpu call ≡ true
+  pub deaf : ((boot_world system.image).solos e).mask ≡ 0
+  pub unasked : (tick : ℕ) → list_any (is_asking e) (system.schedule tick) ≡ false
+
+-- Where t ticks end the slice n of an environment that is quiet in them, its feed is what it makes alone of what it is
+-- given at boot, the quantum and n.
+abbrev pub QuietIsAlone : Type 0
+QuietIsAlone = (system : System) (e n t : ℕ) → 0 < system.image.quantum → IsQuiet system e t → IsEndOf system e n t
+    → feed system e t ≡ quiet_feed e (boot_items system.image e) system.image.quantum n
+
+-- and so is what it owes then
+abbrev pub QuietOwesAlone : Type 0
+QuietOwesAlone = (system : System) (e n t : ℕ) → 0 < system.image.quantum → IsQuiet system e t → IsEndOf system e n t
+    → (world_after system t).book.excess e ≡ quiet_excess e (boot_items system.image e) system.image.quantum n
+
+-- In each of two systems so many ticks end the slice n of an environment that is quiet in them, is given the same at
+-- boot, and has one quantum.
+pub record AreQuiet (left right : System) (e n t u : ℕ) : Type 0 where
+  pub record_same : boot_items left.image e ≡ boot_items right.image e
+  pub quantum_same : left.image.quantum ≡ right.image.quantum
+  pub quantum_some : 0 < left.image.quantum
+  pub left_quiet : IsQuiet left e t
+  pub right_quiet : IsQuiet right e u
+  pub left_end : IsEndOf left e n t
+  pub right_end : IsEndOf right e n u
+
+-- Then its feeds up to there are the same, whatever else the systems are.
+abbrev pub QuietIsSame : Type 0
+QuietIsSame = (left right : System) (e n t u : ℕ) → AreQuiet left right e n t u → feed left e t ≡ feed right e u
+
+abbrev pub QuietOwesSame : Type 0
+QuietOwesSame = (left right : System) (e n t u : ℕ) → AreQuiet left right e n t u
+    → (world_after left t).book.excess e ≡ (world_after right u).book.excess e
