@@ -1,6 +1,7 @@
 mod Booting
 mod Clear
 mod Early
+mod Ends
 mod Nothing
 mod Others
 mod Own

@@ -6,9 +6,9 @@ use Rattle.call_verdicts.specs.Granted.{AgainAsks, GrantedMay}
 use Rattle.run_model.specs.Boot.{boot_items}
 use Rattle.run_model.specs.Run.{IsFoldOfFeed, System, feed, world_after}
 use Rattle.quiet_law.specs.Alone.{Course, quiet_course}
-use Rattle.quiet_law.specs.Quiet.{AreQuiet, IsQuiet, QuietIsAlone, QuietOwesAlone}
+use Rattle.quiet_law.specs.Quiet.{AreQuiet, IsQuiet, QuietHasOwnPagesAlone, QuietIsAlone, QuietOwesAlone}
 use Rattle.quiet_law.specs.Slices.{IsEndOf}
-use Rattle.quiet_law.proofs.Slicing.{at_slice_end}
+use Rattle.quiet_law.proofs.Slicing.{at_slice_end, ready}
 
 module _ (granted : GrantedMay) (again : AgainAsks) (rich : RichestHasMost) (takable : TakingsAreTakable) (fold : IsFoldOfFeed) where
   given_alone : (system : System) (e n t : ℕ) → 0 < system.image.quantum → IsQuiet system e t → IsEndOf system e n t
@@ -20,6 +20,11 @@ module _ (granted : GrantedMay) (again : AgainAsks) (rich : RichestHasMost) (tak
 
   pub quiet_owes_alone : QuietOwesAlone
   quiet_owes_alone system e n t some quiet ends = ap (λ (c : Course). c.excess) (given_alone system e n t some quiet ends)
+
+  pub quiet_has_own_pages_alone : QuietHasOwnPagesAlone
+  quiet_has_own_pages_alone system e t some quiet =
+      let still = (ready granted again rich takable system e t some quiet t (omega arith)).still in
+      record { accepts_nobody = still.nothing.deaf; owns_none = still.clear.owned; sees_none = still.nothing.sees }
 
   module _ (left right : System) (e n t u : ℕ) (both : AreQuiet left right e n t u) where
     right_some : 0 < right.image.quantum

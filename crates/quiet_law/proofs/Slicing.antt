@@ -25,6 +25,7 @@ use Rattle.quiet_law.specs.Alone.{Course, is_quiet_call, items_first, quiet_cour
 use Rattle.quiet_law.specs.Quiet.{IsQuiet}
 use Rattle.quiet_law.specs.Slices.{IsEndOf, begins_in, begins_slice, ends_in, runs_after, slices}
 use Rattle.quiet_law.proofs.Booting.{boot_imaged, boot_still}
+use Rattle.quiet_law.proofs.Ends.{ends_last, slices_end_stopped}
 use Rattle.quiet_law.proofs.Rest.{rest_if, rest_in}
 use Rattle.quiet_law.proofs.Ticks.{Begins, GoesOn, IsStill, Out, Tells, Told, items_twice, rest_at, tick_tells}
 
@@ -73,7 +74,7 @@ module _ (granted : GrantedMay) (again : AgainAsks) (rich : RichestHasMost) (tak
           (happens_in system.schedule x) (quiet.unasked x.book.time) (takings_next system.schedule x) (takable (revocations v.book) v.book.time v.count) (quiet_now t below)
 
   pub ready : (t : ℕ) → t ≤ most → IsReady t
-  ready zero below = record { still = boot_still system.image e quiet.deaf; quantum = (boot_imaged system.image).quantum }
+  ready zero below = record { still = boot_still system.image e quiet.accepts_nobody; quantum = (boot_imaged system.image).quantum }
   ready (suc t) below =
       let before = ready t (omega (arith, below)) in
       let tells = tick_told t (omega (arith, below)) before in
@@ -162,18 +163,12 @@ module _ (granted : GrantedMay) (again : AgainAsks) (rich : RichestHasMost) (tak
     pub at_slice_end : (n t : ℕ) → t ≤ most → IsEndOf system e n t → record { items = feed system e t; excess = (world_after system t).book.excess e } ≡ course n
     at_slice_end n zero below ends =
         ap (λ (f : ℕ → ℕ). record { items = boot_items system.image e; excess = f e }) (boot_imaged system.image).excess ∙ ap course ends.reached
-    at_slice_end n (suc t) below ends = by_end (ends_in system e t) refl
-      where
-        by_end : (ended : Bool) → ends_in system e t ≡ ended → record { items = feed system e (suc t); excess = (world_after system (suc t)).book.excess e } ≡ course n
-        by_end true ended =
-            let parts = and_parts (runs_after system e t || begins_in system e t) (not (runs_after system e (suc t))) ended in
-            let out : runs_after system e (suc t) ≡ false = not-true (runs_after system e (suc t)) parts.1 in
-            let v = world_after system (suc t) in
-            let number : suc (slices system e t) ≡ n = sym (one_more (slices system e t)) ∙ ap (λ (b : Bool). slices system e t + (if b then 1 else 0)) (sym ended) ∙ ends.reached in
-            ap (λ items. record { items = items; excess = v.book.excess e }) (sym (append-nil (feed system e (suc t))))
-            ∙ ap (items_first (feed system e (suc t))) (sym (rest_out e q (v.book.excess e) v.book.runner (v.solos e) out))
-            ∙ in_slice t (omega (arith, below)) (alone t (omega (arith, below))) parts.0
-            ∙ ap course number
-        by_end false on =
-            let same : slices system e t ≡ n = omega arith ∙ ap (λ (b : Bool). slices system e t + (if b then 1 else 0)) (sym on) ∙ ends.reached in
-            absurd (omega (arith, ends.fewest t (omega arith), same))
+    at_slice_end n (suc t) below ends =
+        let ended = ends_last system e n t ends in
+        let active = (and_parts (runs_after system e t || begins_in system e t) (not (runs_after system e (suc t))) ended).0 in
+        let v = world_after system (suc t) in
+        let number : suc (slices system e t) ≡ n = sym (one_more (slices system e t)) ∙ ap (λ (b : Bool). slices system e t + (if b then 1 else 0)) (sym ended) ∙ ends.reached in
+        ap (λ items. record { items = items; excess = v.book.excess e }) (sym (append-nil (feed system e (suc t))))
+        ∙ ap (items_first (feed system e (suc t))) (sym (rest_out e q (v.book.excess e) v.book.runner (v.solos e) (slices_end_stopped system e n (suc t) ends)))
+        ∙ in_slice t (omega (arith, below)) (alone t (omega (arith, below))) active
+        ∙ ap course number

@@ -1,8 +1,9 @@
 -- An environment that asks nothing of others, and of which nobody asks anything.
-use Rattle.std.specs.Prelude.{◌≡◌, ◌<◌, ℕ, Bool, true, false, ◌==◌, Option}
+use Rattle.std.specs.Prelude.{◌≡◌, ◌<◌, ℕ, Bool, true, false, ◌==◌, Option, None}
 use Rattle.std.specs.List.{list_any}
 use Rattle.external_event.specs.declared.event.Occurrence.{Occurrence}
 use Rattle.external_event.specs.declared.event.Occurrence.TheVariants as outside
+use Rattle.page_book.specs.Row.{is_owned_by}
 use Rattle.world_model.specs.declared.call.Call.{Call}
 use Rattle.world_model.specs.Step.{Calls}
 use Rattle.run_model.specs.Acting.{Acts}
@@ -22,8 +23,18 @@ is_asking e (outside.Revoke env count grace) = env == e
 pub record IsQuiet (system : System) (e t : ℕ) : Type 0 where
   pub calls : (u : ℕ) (call : Option Call) → u < t → Acts (at_step system u) e (Calls call)
       → is_quiet_call ((at_step system u).solos e).cpu call ≡ true
-  pub deaf : ((boot_world system.image).solos e).mask ≡ 0
+  pub accepts_nobody : ((boot_world system.image).solos e).mask ≡ 0
   pub unasked : (tick : ℕ) → list_any (is_asking e) (system.schedule tick) ≡ false
+
+-- So it accepts nobody after them, and has no page but its guaranteed ones.
+pub record HasOwnPagesAlone (system : System) (e t : ℕ) : Type 0 where
+  pub accepts_nobody : ((world_after system t).solos e).mask ≡ 0
+  pub owns_none : (page : ℕ) → is_owned_by e ((world_after system t).book.pages page) ≡ false
+  pub sees_none : (page : ℕ) → ((world_after system t).solos e).seen page ≡ None
+
+abbrev pub QuietHasOwnPagesAlone : Type 0
+QuietHasOwnPagesAlone = (system : System) (e t : ℕ) → 0 < system.image.quantum → IsQuiet system e t
+    → HasOwnPagesAlone system e t
 
 -- Where t ticks end the slice n of an environment that is quiet in them, its feed is what it makes alone of what it is
 -- given at boot, the quantum and n.

@@ -31,3 +31,7 @@ slices system e (suc t) = slices system e t + (if ends_in system e t then 1 else
 pub record IsEndOf (system : System) (e n t : ℕ) : Type 0 where
   pub reached : slices system e t ≡ n
   pub fewest : (u : ℕ) → u < t → slices system e u < n
+
+-- Then the environment doesn't run.
+abbrev pub SlicesEndStopped : Type 0
+SlicesEndStopped = (system : System) (e n t : ℕ) → IsEndOf system e n t → runs_after system e t ≡ false

@@ -1,15 +1,24 @@
 //! What a quiet environment is given, and what it owes.
-ghost use Rattle.quiet_law.specs.Quiet.{QuietIsAlone, QuietIsSame, QuietOwesAlone, QuietOwesSame};
+ghost use Rattle.quiet_law.specs.Quiet.{
+    QuietHasOwnPagesAlone, QuietIsAlone, QuietIsSame, QuietOwesAlone, QuietOwesSame
+};
+ghost use Rattle.quiet_law.specs.Slices.{SlicesEndStopped};
 
 use call_verdicts::{law_again, law_granted};
 use revocation_book::{law_richest, law_takable};
 use run_model::law_alone;
 
-/// Where a quiet environment has come to the end of its slice n, it was given what it makes alone of its record in the
-/// image, the quantum and n, and owes what it makes alone. So in two systems in which it has one record, its version
-/// included, and one quantum, and is quiet, it was given the same at the end of slice n, and owes the same, whatever the
-/// other programs, slots, packets, signals and revocations are.
+/// At the end of a slice its environment doesn't run.
+pub fn law_slices()
+    ensures { SlicesEndStopped }
+{}
+
+/// A quiet environment accepts nobody, and has no page but its guaranteed ones. Where it has come to the end of its slice
+/// n, it was given what it makes alone of its record in the image, the quantum and n, and owes what it makes alone. So in
+/// two systems in which it is quiet and has one record, its version included, and one quantum, it was given the same at
+/// the end of slice n, and owes the same, whatever the other programs, slots, packets, signals and revocations are.
 pub fn law_quiet()
+    ensures pages { QuietHasOwnPagesAlone }
     ensures feed { QuietIsAlone }
     ensures excess { QuietOwesAlone }
     ensures same_feed { QuietIsSame }

@@ -1,5 +1,5 @@
 -- The law is the lemma, in one system and in two.
-use Rattle.quiet_law.proofs.Same.{quiet_is_alone, quiet_owes_alone, same_excess, same_feed}
+use Rattle.quiet_law.proofs.Same.{quiet_has_own_pages_alone, quiet_is_alone, quiet_owes_alone, same_excess, same_feed}
 use Rattle.quiet_law.proofs.laws.law_quiet.Goals as goal
 
 pub returns : goal.returns
@@ -10,6 +10,7 @@ returns c =
     let takable = c.law_takable.ensures in
     let fold = c.law_alone.ensures in
     record {
+      pages = quiet_has_own_pages_alone granted again rich takable fold;
       feed = quiet_is_alone granted again rich takable fold;
       excess = quiet_owes_alone granted again rich takable fold;
       same_feed = same_feed granted again rich takable fold;
