@@ -1,6 +1,10 @@
 //! What a quiet environment is given, and what it owes.
 ghost use Rattle.quiet_law.specs.Quiet.{
-    QuietHasOwnPagesAlone, QuietIsAlone, QuietIsSame, QuietOwesAlone, QuietOwesSame
+  QuietHasOwnPagesAlone,
+  QuietIsAlone,
+  QuietIsSame,
+  QuietOwesAlone,
+  QuietOwesSame,
 };
 ghost use Rattle.quiet_law.specs.Slices.{SlicesEndStopped};
 
