@@ -1,7 +1,7 @@
 //! The book's guaranteed mappings.
 ghost use Rattle.sharing_law.specs.Kept.{KeptAgree, LeadsAgree};
 
-use crate::right::law_licence;
+use crate::right::law_given_licence;
 use call_verdicts::{law_again, law_granted};
 use revocation_book::law_takable;
 
@@ -13,7 +13,7 @@ pub fn law_kept()
     law_granted();
     law_again();
     law_takable();
-    law_licence();
+    law_given_licence();
 }
 
 /// So where a VPN leads by the book, a guaranteed mapping first and else a binding, is where it leads by the environment
@@ -24,5 +24,5 @@ pub fn law_leads()
     law_granted();
     law_again();
     law_takable();
-    law_licence();
+    law_given_licence();
 }

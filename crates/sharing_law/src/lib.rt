@@ -4,8 +4,10 @@
 #![tactic(auto)]
 
 // `law_live`, `law_stores`, `law_left`: by what right bindings stand, and bytes are stored and left.
-// `law_licence`, `law_feed_licence`: every item is licensed where it is given.
+// `law_given_licence`, `law_feed_licence`: every item is licensed where it is given.
 mod right;
+// `law_licence`: these and the causes of change as one law.
+mod licence;
 // `law_versions`, `law_rows`: the image's version is that of the book and the environments, and says in which rows
 // bindings stand.
 mod versions;
@@ -33,8 +35,9 @@ pub use change::{
     law_item_change, law_zeros, law_zeros_in_tick,
 };
 pub use kept::{law_kept, law_leads};
+pub use licence::law_licence;
 pub use lines::law_lines;
-pub use right::{law_feed_licence, law_left, law_licence, law_live, law_stores};
+pub use right::{law_feed_licence, law_given_licence, law_left, law_live, law_stores};
 pub use sent::law_sent;
 pub use versions::{law_rows, law_versions};
 pub use whole::{law_guaranteed_whole, law_whole, law_whole_copies};

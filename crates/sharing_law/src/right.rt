@@ -28,7 +28,7 @@ pub fn law_stores()
 }
 
 /// Every item that an environment is given in a phase of a tick has its licence in the world of that phase.
-pub fn law_licence()
+pub fn law_given_licence()
     ensures { GivenIsLicensed }
 {
     law_stores();
@@ -52,5 +52,5 @@ pub fn law_left()
     law_granted();
     law_again();
     law_takable();
-    law_licence();
+    law_given_licence();
 }

@@ -1,7 +1,7 @@
 //! What environments send.
 ghost use Rattle.sharing_law.specs.Sent.{SentIsWithin};
 
-use crate::right::law_licence;
+use crate::right::law_given_licence;
 use call_verdicts::law_granted;
 
 /// At each moment of every run each environment has sent at most 256 packets, by its calls and by its handlers, each of
@@ -10,5 +10,5 @@ pub fn law_sent()
     ensures { SentIsWithin }
 {
     law_granted();
-    law_licence();
+    law_given_licence();
 }

@@ -1,7 +1,7 @@
 //! The version of the image.
 ghost use Rattle.sharing_law.specs.Versions.{BindingsInRows, VersionsAgree};
 
-use crate::right::law_licence;
+use crate::right::law_given_licence;
 use call_verdicts::{law_again, law_granted};
 use revocation_book::law_takable;
 
@@ -10,7 +10,7 @@ use revocation_book::law_takable;
 pub fn law_versions()
     ensures { VersionsAgree }
 {
-    law_licence();
+    law_given_licence();
 }
 
 /// Every binding that the book lists stands in the row of its VPN by this version.
@@ -20,5 +20,5 @@ pub fn law_rows()
     law_granted();
     law_again();
     law_takable();
-    law_licence();
+    law_given_licence();
 }

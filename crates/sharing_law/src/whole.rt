@@ -1,7 +1,7 @@
 //! Whole pages.
 ghost use Rattle.sharing_law.specs.Whole.{CopiesAreWhole, GuaranteedAreWhole, PagesAreWhole};
 
-use crate::right::law_licence;
+use crate::right::law_given_licence;
 use call_verdicts::{law_again, law_granted};
 use revocation_book::law_takable;
 use safe_handler::law_runs_keep_limits;
@@ -14,7 +14,7 @@ pub fn law_whole()
     law_granted();
     law_again();
     law_takable();
-    law_licence();
+    law_given_licence();
     law_runs_keep_limits();
 }
 
@@ -25,7 +25,7 @@ pub fn law_whole_copies()
     law_granted();
     law_again();
     law_takable();
-    law_licence();
+    law_given_licence();
     law_runs_keep_limits();
 }
 
@@ -33,5 +33,5 @@ pub fn law_whole_copies()
 pub fn law_guaranteed_whole()
     ensures { GuaranteedAreWhole }
 {
-    law_licence();
+    law_given_licence();
 }
