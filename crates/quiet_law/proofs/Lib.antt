@@ -1,7 +1,6 @@
 mod Booting
 mod Clear
 mod Early
-mod Ends
 mod Nothing
 mod Others
 mod Own

@@ -7,13 +7,13 @@ use Rattle.run_model.specs.Boot.{boot_items}
 use Rattle.run_model.specs.Run.{IsFoldOfFeed, System, feed, world_after}
 use Rattle.quiet_law.specs.Alone.{Course, quiet_course}
 use Rattle.quiet_law.specs.Quiet.{AreQuiet, IsQuiet, QuietHasOwnPagesAlone, QuietIsAlone, QuietOwesAlone}
-use Rattle.quiet_law.specs.Slices.{IsEndOf}
+use Rattle.run_model.specs.Slices.{IsEndOf, SlicesEndLast, SlicesEndStopped}
 use Rattle.quiet_law.proofs.Slicing.{at_slice_end, ready}
 
-module _ (granted : GrantedMay) (again : AgainAsks) (rich : RichestHasMost) (takable : TakingsAreTakable) (fold : IsFoldOfFeed) where
+module _ (granted : GrantedMay) (again : AgainAsks) (rich : RichestHasMost) (takable : TakingsAreTakable) (fold : IsFoldOfFeed) (stopped : SlicesEndStopped) (last : SlicesEndLast) where
   given_alone : (system : System) (e n t : ℕ) → 0 < system.image.quantum → IsQuiet system e t → IsEndOf system e n t
       → record { items = feed system e t; excess = (world_after system t).book.excess e } ≡ quiet_course e (boot_items system.image e) system.image.quantum n
-  given_alone system e n t some quiet ends = at_slice_end granted again rich takable system e t some quiet fold n t (omega arith) ends
+  given_alone system e n t some quiet ends = at_slice_end granted again rich takable system e t some quiet fold stopped last n t (omega arith) ends
 
   pub quiet_is_alone : QuietIsAlone
   quiet_is_alone system e n t some quiet ends = ap (λ (c : Course). c.items) (given_alone system e n t some quiet ends)

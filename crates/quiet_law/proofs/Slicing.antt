@@ -23,9 +23,8 @@ use Rattle.run_model.proofs.Balance.{boots_accounted, ticks_keep_accounts}
 use Rattle.run_model.proofs.Phases.{moments_in_order}
 use Rattle.quiet_law.specs.Alone.{Course, is_quiet_call, items_first, quiet_course, slice_alone, slice_behind, slice_over}
 use Rattle.quiet_law.specs.Quiet.{IsQuiet}
-use Rattle.quiet_law.specs.Slices.{IsEndOf, begins_in, begins_slice, ends_in, runs_after, slices}
+use Rattle.run_model.specs.Slices.{IsEndOf, SlicesEndLast, SlicesEndStopped, begins_in, begins_slice, ends_in, runs_after, slices}
 use Rattle.quiet_law.proofs.Booting.{boot_imaged, boot_still}
-use Rattle.quiet_law.proofs.Ends.{ends_last, slices_end_stopped}
 use Rattle.quiet_law.proofs.Rest.{rest_if, rest_in}
 use Rattle.quiet_law.proofs.Ticks.{Begins, GoesOn, IsStill, Out, Tells, Told, items_twice, rest_at, tick_tells}
 
@@ -160,15 +159,15 @@ module _ (granted : GrantedMay) (again : AgainAsks) (rich : RichestHasMost) (tak
     alone (suc t) below = by_active t (omega (arith, below)) (alone t (omega (arith, below))) (runs_after system e t || begins_in system e t) refl
 
     -- At the end of a slice it was given what it makes alone, and owes it.
-    pub at_slice_end : (n t : ℕ) → t ≤ most → IsEndOf system e n t → record { items = feed system e t; excess = (world_after system t).book.excess e } ≡ course n
-    at_slice_end n zero below ends =
+    pub at_slice_end : SlicesEndStopped → SlicesEndLast → (n t : ℕ) → t ≤ most → IsEndOf system e n t → record { items = feed system e t; excess = (world_after system t).book.excess e } ≡ course n
+    at_slice_end stopped last n zero below ends =
         ap (λ (f : ℕ → ℕ). record { items = boot_items system.image e; excess = f e }) (boot_imaged system.image).excess ∙ ap course ends.reached
-    at_slice_end n (suc t) below ends =
-        let ended = ends_last system e n t ends in
+    at_slice_end stopped last n (suc t) below ends =
+        let ended = last system e n t ends in
         let active = (and_parts (runs_after system e t || begins_in system e t) (not (runs_after system e (suc t))) ended).0 in
         let v = world_after system (suc t) in
         let number : suc (slices system e t) ≡ n = sym (one_more (slices system e t)) ∙ ap (λ (b : Bool). slices system e t + (if b then 1 else 0)) (sym ended) ∙ ends.reached in
         ap (λ items. record { items = items; excess = v.book.excess e }) (sym (append-nil (feed system e (suc t))))
-        ∙ ap (items_first (feed system e (suc t))) (sym (rest_out e q (v.book.excess e) v.book.runner (v.solos e) (slices_end_stopped system e n (suc t) ends)))
+        ∙ ap (items_first (feed system e (suc t))) (sym (rest_out e q (v.book.excess e) v.book.runner (v.solos e) (stopped system e n (suc t) ends)))
         ∙ in_slice t (omega (arith, below)) (alone t (omega (arith, below))) active
         ∙ ap course number

@@ -30,7 +30,7 @@ use Rattle.run_model.proofs.Phases.{run_append}
 use Rattle.run_model.proofs.Replies.{still_accounts}
 use Rattle.quiet_law.specs.Alone.{Course, is_quiet_call, item_first, items_first, own_end, slice_alone, slice_over, ticks_alone}
 use Rattle.quiet_law.specs.Quiet.{is_asking}
-use Rattle.quiet_law.specs.Slices.{begins_slice}
+use Rattle.run_model.specs.Slices.{begins_slice}
 use Rattle.quiet_law.proofs.Clear.{IsClear}
 use Rattle.quiet_law.proofs.Early.{IsAsBefore, Leads, events_lead, leads_both, takings_lead}
 use Rattle.quiet_law.proofs.Nothing.{HasNothing, start_nothing}

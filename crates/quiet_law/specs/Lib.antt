@@ -1,3 +1,2 @@
-pub mod Slices
 pub mod Alone
 pub mod Quiet

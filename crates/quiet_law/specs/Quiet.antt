@@ -10,7 +10,7 @@ use Rattle.run_model.specs.Acting.{Acts}
 use Rattle.run_model.specs.Boot.{boot_items, boot_world}
 use Rattle.run_model.specs.Run.{System, at_step, feed, world_after}
 use Rattle.quiet_law.specs.Alone.{is_quiet_call, quiet_excess, quiet_feed}
-use Rattle.quiet_law.specs.Slices.{IsEndOf}
+use Rattle.run_model.specs.Slices.{IsEndOf}
 
 -- whether a revocation names the environment
 abbrev pub is_asking : ℕ → Occurrence → Bool

@@ -1,21 +1,9 @@
 //! What a quiet environment is given, and what it owes.
-ghost use Rattle.quiet_law.specs.Quiet.{
-  QuietHasOwnPagesAlone,
-  QuietIsAlone,
-  QuietIsSame,
-  QuietOwesAlone,
-  QuietOwesSame,
-};
-ghost use Rattle.quiet_law.specs.Slices.{SlicesEndStopped};
+ghost use Rattle.quiet_law.specs.Quiet.{QuietHasOwnPagesAlone, QuietIsAlone, QuietIsSame, QuietOwesAlone, QuietOwesSame};
 
 use call_verdicts::{law_again, law_granted};
 use revocation_book::{law_richest, law_takable};
-use run_model::law_alone;
-
-/// At the end of a slice its environment doesn't run.
-pub fn law_slices()
-    ensures { SlicesEndStopped }
-{}
+use run_model::{law_alone, law_slices};
 
 /// A quiet environment accepts nobody, and has no page but its guaranteed ones. Where it has come to the end of its slice
 /// n, it was given what it makes alone of its record in the image, the quantum and n, and owes what it makes alone. So in
@@ -33,4 +21,5 @@ pub fn law_quiet()
     law_richest();
     law_takable();
     law_alone();
+    law_slices();
 }

@@ -4,4 +4,4 @@
 
 mod laws;
 
-pub use laws::{law_quiet, law_slices};
+pub use laws::law_quiet;

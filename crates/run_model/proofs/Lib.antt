@@ -9,3 +9,4 @@ pub mod Replies
 pub mod Balance
 mod Licensing
 mod Verified
+mod Ends

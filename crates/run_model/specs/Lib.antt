@@ -1,5 +1,6 @@
 pub mod Boot
 pub mod Run
+pub mod Slices
 pub mod NextTurn
 pub mod Excess
 pub mod Acting

@@ -6,6 +6,7 @@ ghost use Rattle.run_model.specs.Excess.{BalanceHolds, BootsAccounted, LedgersAr
 ghost use Rattle.run_model.specs.Licensed.{FeedIsLicensed, GivenIsLicensed};
 ghost use Rattle.run_model.specs.Handlers.{HandlersAreVerified};
 ghost use Rattle.run_model.specs.Live.{StoresAreLive};
+ghost use Rattle.run_model.specs.Slices.{SlicesEndLast, SlicesEndStopped};
 ghost use Rattle.run_model.specs.Run.{InTurnIsEach, IsFoldOfFeed, MomentsAreInOrder, PhasesGive};
 
 use call_verdicts::{law_again, law_granted};
@@ -76,6 +77,12 @@ pub fn law_accounts()
 /// In a tick each environment is given what the phases of the tick give, one after another.
 pub fn law_feed()
     ensures { PhasesGive }
+{}
+
+/// In so many ticks as end a slice of an environment a slice of it ends in the last, and behind them it doesn't run.
+pub fn law_slices()
+    ensures stopped { SlicesEndStopped }
+    ensures last { SlicesEndLast }
 {}
 
 /// Every item of every feed has its licence where it is given, at boot or in its phase of its tick, if each store to a page

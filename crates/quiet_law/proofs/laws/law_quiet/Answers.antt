@@ -9,10 +9,12 @@ returns c =
     let rich = c.law_richest.ensures in
     let takable = c.law_takable.ensures in
     let fold = c.law_alone.ensures in
+    let stopped = c.law_slices.ensures.stopped in
+    let last = c.law_slices.ensures.last in
     record {
-      pages = quiet_has_own_pages_alone granted again rich takable fold;
-      feed = quiet_is_alone granted again rich takable fold;
-      excess = quiet_owes_alone granted again rich takable fold;
-      same_feed = same_feed granted again rich takable fold;
-      same_excess = same_excess granted again rich takable fold;
+      pages = quiet_has_own_pages_alone granted again rich takable fold stopped last;
+      feed = quiet_is_alone granted again rich takable fold stopped last;
+      excess = quiet_owes_alone granted again rich takable fold stopped last;
+      same_feed = same_feed granted again rich takable fold stopped last;
+      same_excess = same_excess granted again rich takable fold stopped last;
     }

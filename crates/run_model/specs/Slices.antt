@@ -32,6 +32,10 @@ pub record IsEndOf (system : System) (e n t : ℕ) : Type 0 where
   pub reached : slices system e t ≡ n
   pub fewest : (u : ℕ) → u < t → slices system e u < n
 
--- Then the environment doesn't run.
+-- Behind them the environment doesn't run,
 abbrev pub SlicesEndStopped : Type 0
 SlicesEndStopped = (system : System) (e n t : ℕ) → IsEndOf system e n t → runs_after system e t ≡ false
+
+-- and in the last of them a slice ends.
+abbrev pub SlicesEndLast : Type 0
+SlicesEndLast = (system : System) (e n t : ℕ) → IsEndOf system e n (suc t) → ends_in system e t ≡ true
