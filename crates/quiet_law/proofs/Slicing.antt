@@ -21,7 +21,7 @@ use Rattle.run_model.specs.Excess.{IsAccounted}
 use Rattle.run_model.specs.Run.{IsFoldOfFeed, System, after_phase, feed, happens_in, items_in, next_phases, once_happened, takings_next, world_after}
 use Rattle.run_model.proofs.Balance.{boots_accounted, ticks_keep_accounts}
 use Rattle.run_model.proofs.Phases.{moments_in_order}
-use Rattle.quiet_law.specs.Alone.{Course, is_quiet_call, items_first, quiet_course, slice_alone, slice_behind, slice_over}
+use Rattle.quiet_law.specs.Alone.{Course, is_quiet_call, items_first, quiet_course, quiet_slice, slice_behind, slice_over}
 use Rattle.quiet_law.specs.Quiet.{IsQuiet}
 use Rattle.run_model.specs.Slices.{IsEndOf, SlicesEndLast, SlicesEndStopped, begins_in, begins_slice, ends_in, runs_after, slices}
 use Rattle.quiet_law.proofs.Booting.{boot_imaged, boot_still}
@@ -123,9 +123,9 @@ module _ (granted : GrantedMay) (again : AgainAsks) (rich : RichestHasMost) (tak
             ∙ items_twice (feed system e t) (items_in system t e) (rest_at e q (world_after system (suc t))))
             ∙ alone.runs own
         by_told (Begins other begins is) =
-            sym (ap (items_first (feed system e t)) (ap (λ n. slice_alone n ((world_after system t).solos e)) (sym before.quantum) ∙ is ∙ ap (λ n. items_first (items_in system t e) (rest_at e n (world_after system (suc t)))) before.quantum)
+            sym (ap (items_first (feed system e t)) (ap (λ n. quiet_slice n ((world_after system t).solos e)) (sym before.quantum) ∙ is ∙ ap (λ n. items_first (items_in system t e) (rest_at e n (world_after system (suc t)))) before.quantum)
             ∙ items_twice (feed system e t) (items_in system t e) (rest_at e q (world_after system (suc t))))
-            ∙ ap (λ s. items_first (feed system e t) (slice_alone q s)) (fold system t e)
+            ∙ ap (λ s. items_first (feed system e t) (quiet_slice q s)) (fold system t e)
             ∙ ap (slice_behind e q) (alone.waits other)
         by_told (Out other none out) =
             let clash : false ≡ true = sym (ap (λ (own : Bool). own || begins_in system e t) other ∙ ap (list_any begins_slice) none) ∙ active in cc

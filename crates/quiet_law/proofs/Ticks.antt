@@ -28,7 +28,7 @@ use Rattle.run_model.proofs.Balance.{happen_accounts, taking_accounts}
 use Rattle.run_model.proofs.Lives.{keep_none}
 use Rattle.run_model.proofs.Phases.{run_append}
 use Rattle.run_model.proofs.Replies.{still_accounts}
-use Rattle.quiet_law.specs.Alone.{Course, is_quiet_call, item_first, items_first, own_end, slice_alone, slice_over, ticks_alone}
+use Rattle.quiet_law.specs.Alone.{Course, is_quiet_call, item_first, items_first, own_end, quiet_slice, slice_over, ticks_alone}
 use Rattle.quiet_law.specs.Quiet.{is_asking}
 use Rattle.run_model.specs.Slices.{begins_slice}
 use Rattle.quiet_law.proofs.Clear.{IsClear}
@@ -154,7 +154,7 @@ module _ (granted : GrantedMay) (again : AgainAsks) (rich : RichestHasMost) (e :
 -- doesn't run behind it.
 pub data Told (e : ℕ) (w v : World) (items : List Item) : Type 0 where
   GoesOn : is_runner e w.book.runner ≡ true → rest_at e w.book.quantum w ≡ items_first items (rest_at e w.book.quantum v) → Told e w v items
-  Begins : is_runner e w.book.runner ≡ false → list_any begins_slice items ≡ true → slice_alone w.book.quantum (w.solos e) ≡ items_first items (rest_at e w.book.quantum v) → Told e w v items
+  Begins : is_runner e w.book.runner ≡ false → list_any begins_slice items ≡ true → quiet_slice w.book.quantum (w.solos e) ≡ items_first items (rest_at e w.book.quantum v) → Told e w v items
   Out : is_runner e w.book.runner ≡ false → items ≡ [] → is_runner e v.book.runner ≡ false → Told e w v items
 
 pub record Tells (e : ℕ) (w v : World) (items : List Item) : Type 0 where
@@ -240,7 +240,7 @@ module _ (granted : GrantedMay) (again : AgainAsks) (rich : RichestHasMost) (e :
     start_items : all_given ≡ Start ∷ given_behind
     start_items = ap (λ (xs : List Item). xs ++ given_behind) begins.items
 
-    start_course : slice_alone w.book.quantum (w.solos e) ≡ items_first all_given (rest_at e w.book.quantum behind)
+    start_course : quiet_slice w.book.quantum (w.solos e) ≡ items_first all_given (rest_at e w.book.quantum behind)
     start_course =
         ap (λ (life : Life). if is_dead life then slice_over 0 else item_first Start (ticks_alone (own_end w.book.quantum) 0 w.book.quantum (absorb (w.solos e) Start))) begins.lives
         ∙ ap (λ (s : Solo). item_first Start (ticks_alone (own_end w.book.quantum) 0 w.book.quantum s)) (sym started)
@@ -342,7 +342,7 @@ module _ (granted : GrantedMay) (again : AgainAsks) (rich : RichestHasMost) (e :
     from_start {items} (GoesOn own course) = GoesOn (ap (is_runner e) (sym before.runner) ∙ own) (sym rest_before ∙ course ∙ ap (λ (n : ℕ). items_first items (rest_at e n ended)) before.quantum)
     from_start {items} (Begins other begins course) =
         Begins (ap (is_runner e) (sym before.runner) ∙ other) begins
-        (ap (λ (n : ℕ). slice_alone n (w.solos e)) (sym before.quantum) ∙ ap (slice_alone served.book.quantum) (sym before.solo) ∙ course ∙ ap (λ (n : ℕ). items_first items (rest_at e n ended)) before.quantum)
+        (ap (λ (n : ℕ). quiet_slice n (w.solos e)) (sym before.quantum) ∙ ap (quiet_slice served.book.quantum) (sym before.solo) ∙ course ∙ ap (λ (n : ℕ). items_first items (rest_at e n ended)) before.quantum)
     from_start {items} (Out other none out) = Out (ap (is_runner e) (sym before.runner) ∙ other) none out
 
     here : Tells e w ended ((in_turn late served).items e)

@@ -88,16 +88,13 @@ own_end quantum s =
     else item_first End (ticks_alone (grace_end quantum excess_limit) 0 quantum (absorb s End))
 
 -- a slice from its start on, for an environment that owes nothing; a dead one has none
-abbrev pub slice_alone : ℕ → Solo → Course
-slice_alone quantum s =
+abbrev pub quiet_slice : ℕ → Solo → Course
+quiet_slice quantum s =
     if is_dead s.life then slice_over 0 else item_first Start (ticks_alone (own_end quantum) 0 quantum (absorb s Start))
-
-abbrev pub quiet_slice : ℕ → Solo → List Item
-quiet_slice quantum s = (slice_alone quantum s).items
 
 -- Items, and then a slice of the environment of this number that they leave.
 abbrev pub slice_behind : ℕ → ℕ → List Item → Course
-slice_behind e quantum items = items_first items (slice_alone quantum (absorb_all (absent e) items))
+slice_behind e quantum items = items_first items (quiet_slice quantum (absorb_all (absent e) items))
 
 -- what it is given at boot, and then n slices
 abbrev pub quiet_course : ℕ → List Item → ℕ → ℕ → Course
