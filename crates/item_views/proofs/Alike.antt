@@ -1,4 +1,4 @@
--- Items that are shown alike are alike.
+-- Items that are view_of alike are alike.
 use Rattle.std.proofs.Common.{◌≡◌, ◌*◌, ◌/◌, ◌%◌, ℕ, List, [], ◌∷◌, ◌++◌, length, Bool, true, false, Option, None, Some, refl, sym, ◌∙◌, ap, append_assoc, arith}
 use Rattle.std.specs.Prelude.{◌==◌, if◌then◌else◌, unwrap_or}
 use Rattle.std.specs.List.{flat_map}
@@ -23,7 +23,7 @@ use Rattle.world_model.specs.Item.{Item, Boot, Step, Start, End, Transfer, Kille
 use Rattle.world_model.specs.Page.{KeptPage}
 use Rattle.item_views.specs.declared.view.ItemKind.{ItemKind}
 use Rattle.item_views.specs.declared.view.ItemKind.TheVariants as kind
-use Rattle.item_views.specs.Views.{AlikeWhereShownAlike, ArePages, AreWords, AreRegistersFit, IsFit, IsRecordFit, IsWord, ItemSeen, item_seen, mode_number, page_text, record_text, register_text}
+use Rattle.item_views.specs.Views.{AlikeWhereShownAlike, ArePages, AreWords, AreRegistersFit, IsFit, IsRecordFit, IsWord, ItemSeen, item_seen, mode_number, page_text, record_text, transfer_text}
 
 -- lists in two parts, of which the first are as long
 halves : (xs ys us vs : List ℕ) → length xs ≡ length ys → xs ++ us ≡ ys ++ vs → (xs ≡ ys) × (us ≡ vs)
@@ -93,7 +93,7 @@ words_length : (words : List ℕ) → length (flat_map word_bytes words) ≡ 4 *
 words_length [] = refl
 words_length (word ∷ words) = omega (arith, length-append (word_bytes word) (flat_map word_bytes words), words_length words)
 
-registers_same : (r t : Registers) → AreRegistersFit r → AreRegistersFit t → register_text r ≡ register_text t → r ≡ t
+registers_same : (r t : Registers) → AreRegistersFit r → AreRegistersFit t → transfer_text r ≡ transfer_text t → r ≡ t
 registers_same r t first next is =
     let long : length (flat_map word_bytes r.regs) ≡ length (flat_map word_bytes t.regs) = omega (arith, words_length r.regs, words_length t.regs, first.count, next.count) in
     let general = halves (flat_map word_bytes r.regs) (flat_map word_bytes t.regs) (word_bytes r.hi ++ word_bytes r.lo) (word_bytes t.hi ++ word_bytes t.lo) long (sym (append_assoc (flat_map word_bytes r.regs) (word_bytes r.hi) (word_bytes r.lo)) ∙ is ∙ append_assoc (flat_map word_bytes t.regs) (word_bytes t.hi) (word_bytes t.lo)) in

@@ -18,8 +18,8 @@ pub record ItemSeen : Type 0 where
   pub b : ℕ
   pub bytes : List ℕ
 
-abbrev pub shown : ItemKind → ℕ → ℕ → List ℕ → ItemSeen
-shown kind a b bytes = record { kind = kind; a = a; b = b; bytes = bytes }
+abbrev pub view_of : ItemKind → ℕ → ℕ → List ℕ → ItemSeen
+view_of kind a b bytes = record { kind = kind; a = a; b = b; bytes = bytes }
 
 abbrev pub mode_number : Bool → ℕ
 mode_number true = 1
@@ -35,27 +35,27 @@ record_text number name entry accept kept =
     number ∷ name ++ word_bytes entry ++ word_bytes accept ++ flat_map page_text kept
 
 -- registers 1 to 31, HI and LO
-abbrev pub register_text : Registers → List ℕ
-register_text r = flat_map word_bytes r.regs ++ word_bytes r.hi ++ word_bytes r.lo
+abbrev pub transfer_text : Registers → List ℕ
+transfer_text r = flat_map word_bytes r.regs ++ word_bytes r.hi ++ word_bytes r.lo
 
 -- the numbers of an item in their order, 0 for one that it hasn't, and its bytes
 abbrev pub item_seen : Item → ItemSeen
 item_seen (Boot version number name entry accept kept) =
-    shown kind.Boot (version_number version) 0 (record_text number name entry accept kept)
-item_seen Step = shown kind.Step 0 0 []
-item_seen Start = shown kind.Start 0 0 []
-item_seen End = shown kind.End 0 0 []
+    view_of kind.Boot (version_number version) 0 (record_text number name entry accept kept)
+item_seen Step = view_of kind.Step 0 0 []
+item_seen Start = view_of kind.Start 0 0 []
+item_seen End = view_of kind.End 0 0 []
 item_seen (Transfer from how registers) =
-    shown kind.Transfer from (transfer_number how) (register_text registers)
-item_seen Killed = shown kind.Killed 0 0 []
-item_seen (Answer verdict) = shown kind.Answer (verdict_code verdict) (verdict_value verdict) []
-item_seen (Gained page writable bytes) = shown kind.Gained page (mode_number writable) bytes
-item_seen (Lost page) = shown kind.Lost page 0 []
-item_seen (Left page offset bytes) = shown kind.Left page offset bytes
-item_seen (Packet claim packet) = shown kind.Packet claim 0 packet
-item_seen (Line line) = shown kind.Line line 0 []
-item_seen (Asked outstanding deadline) = shown kind.Asked outstanding deadline []
-item_seen (Taken page backup) = shown kind.Taken page (unwrap_or backup any) []
+    view_of kind.Transfer from (transfer_number how) (transfer_text registers)
+item_seen Killed = view_of kind.Killed 0 0 []
+item_seen (Answer verdict) = view_of kind.Answer (verdict_code verdict) (verdict_value verdict) []
+item_seen (Gained page writable bytes) = view_of kind.Gained page (mode_number writable) bytes
+item_seen (Lost page) = view_of kind.Lost page 0 []
+item_seen (Left page offset bytes) = view_of kind.Left page offset bytes
+item_seen (Packet claim packet) = view_of kind.Packet claim 0 packet
+item_seen (Line line) = view_of kind.Line line 0 []
+item_seen (Asked outstanding deadline) = view_of kind.Asked outstanding deadline []
+item_seen (Taken page backup) = view_of kind.Taken page (unwrap_or backup any) []
 
 abbrev pub IsWord : ℕ → Type 0
 IsWord n = n < 2 ^ 32

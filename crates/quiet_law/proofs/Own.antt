@@ -31,7 +31,7 @@ use Rattle.world_model.specs.Verdict.{done, reply_by_verdict, reply_to, verdict,
 use Rattle.world_model.specs.World.{World, Reply, after, followed, in_turn, no_change, no_items, only, tells}
 use Rattle.world_model.specs.Death.{death, lost_with}
 use Rattle.run_model.proofs.Telling.{call_stands, told_named, told_own}
-use Rattle.quiet_law.specs.Alone.{Course, after_act, after_answer, after_call, answer_alone, is_quiet_call, is_yield, item_first, items_first, slice_over}
+use Rattle.quiet_law.specs.Alone.{Course, act_course, answer_course, call_course, answer_alone, is_quiet_call, is_yield, item_first, items_first, slice_over}
 use Rattle.quiet_law.proofs.Clear.{IsClear, left_none, unbind_bound}
 use Rattle.quiet_law.proofs.Nothing.{HasNothing, IsQuietDeed, answer_nothing, call_quiet, step_nothing}
 use Rattle.quiet_law.proofs.Others.{Waits, death_clear}
@@ -71,7 +71,7 @@ quiet_waits e w d clear quiet goes_on = absurd quiet
 
 -- What an act of the environment brings, in the world once it has made the step.
 pub record Brings (e : ℕ) (w : World) (r : Runner) (act : Act) (reply : Reply) : Type 0 where
-  pub course : (let x = w.book.excess e in let q = w.book.quantum in let s = w.solos e in after_act (rest_of q x (r.left - 1) r.phase) x s act)
+  pub course : (let x = w.book.excess e in let q = w.book.quantum in let s = w.solos e in act_course (rest_of q x (r.left - 1) r.phase) x s act)
       ≡ items_first (reply.items e) (due_in e w.book.quantum (reply.book.excess e) reply.book.runner (absorb_all (w.solos e) (reply.items e)))
   pub clear : IsClear e reply.book
   pub quantum : reply.book.quantum ≡ w.book.quantum
@@ -92,7 +92,7 @@ module _ (e : ℕ) (w : World) (clear : IsClear e w.book) (has : HasNothing (w.s
   goes_on : (excess : ℕ) (runner : Option Runner) (t : Solo) → excess ≡ owes → runner ≡ w.book.runner → due_in e w.book.quantum excess runner t ≡ going t
   goes_on excess runner t same stays = rw (same, stays, runs) (due_runs e w.book.quantum owes r t its)
 
-  nothing_brings : (act : Act) (reply : Reply) → after_act going owes s act ≡ going s → reply.items e ≡ [] → reply.book ≡ w.book → Brings e w r act reply
+  nothing_brings : (act : Act) (reply : Reply) → act_course going owes s act ≡ going s → reply.items e ≡ [] → reply.book ≡ w.book → Brings e w r act reply
   nothing_brings act reply acts nothing same = record {
     course = acts ∙ sym (goes_on (reply.book.excess e) reply.book.runner s (ap (λ (b : Book). b.excess e) same) (ap (λ (b : Book). b.runner) same))
         ∙ ap (λ items. items_first items (due_in e w.book.quantum (reply.book.excess e) reply.book.runner (absorb_all s items))) (sym nothing);
@@ -143,9 +143,9 @@ module _ (e : ℕ) (w : World) (clear : IsClear e w.book) (has : HasNothing (w.s
         let t = absorb s (Answer v) in
         subst (λ (o : Verdict). Brings e w r (Calls c) (reply_by_verdict w e o)) (sym is) (record {
           course =
-              ap (after_call going owes s c) quiet
-              ∙ ap (λ (a : Verdict). item_first (Answer a) (after_answer going owes (absorb s (Answer a)) (is_yield c))) given
-              ∙ ap (λ (ends : Bool). item_first (Answer v) (after_answer going owes t ends)) on
+              ap (call_course going owes s c) quiet
+              ∙ ap (λ (a : Verdict). item_first (Answer a) (answer_course going owes (absorb s (Answer a)) (is_yield c))) given
+              ∙ ap (λ (ends : Bool). item_first (Answer v) (answer_course going owes t ends)) on
               ∙ ap (item_first (Answer v)) (sym (goes_on ((reply_by_verdict w e v).book.excess e) (reply_by_verdict w e v).book.runner t waits.aside.excess waits.runner))
               ∙ ap (λ xs. items_first xs (due_in e w.book.quantum ((reply_by_verdict w e v).book.excess e) (reply_by_verdict w e v).book.runner (absorb_all s xs))) (sym items);
           clear = waits.aside.clear;
@@ -163,7 +163,7 @@ module _ (e : ℕ) (w : World) (clear : IsClear e w.book) (has : HasNothing (w.s
       let items : reply.items e ≡ Answer (Grant 0) ∷ [] = append-nil (only e (Answer (Grant 0) ∷ []) e) ∙ only_own e (Answer (Grant 0) ∷ []) in
       let brings : Brings e w r (Calls (Some call.Yield)) reply = record {
         course =
-            ap (after_call going owes s (Some call.Yield)) quiet
+            ap (call_course going owes s (Some call.Yield)) quiet
             ∙ ap (λ (a : Verdict). item_first (Answer a) (slice_over owes)) given
             ∙ ap (λ xs. items_first xs (due_in e w.book.quantum owes None (absorb_all s xs))) (sym items);
         clear = record { owned = clear.owned; bound = clear.bound; claims = clear.claims; lines = clear.lines };
@@ -238,7 +238,7 @@ own_steps e w clear has r runs its some quiet =
     record {
       course =
           ap (λ n. rest_of q x n r.phase s) left
-          ∙ ap (λ t. item_first Step (after_act (rest_of q x (r.left - 1) r.phase) x t act)) (sym stepped)
+          ∙ ap (λ t. item_first Step (act_course (rest_of q x (r.left - 1) r.phase) x t act)) (sym stepped)
           ∙ ap (item_first Step) brings.course
           ∙ ap (λ t. items_first (Step ∷ more) (due_in e q (reply.book.excess e) reply.book.runner t)) absorbs
           ∙ ap (λ xs. items_first xs (due_in e q (reply.book.excess e) reply.book.runner (absorb_all s (reply.items e)))) (sym items);

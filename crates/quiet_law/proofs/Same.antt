@@ -6,7 +6,7 @@ use Rattle.call_verdicts.specs.Granted.{AgainAsks, GrantedMay}
 use Rattle.run_model.specs.Boot.{boot_items}
 use Rattle.run_model.specs.Run.{IsFoldOfFeed, System, feed, world_after}
 use Rattle.quiet_law.specs.Alone.{Course, quiet_course}
-use Rattle.quiet_law.specs.Quiet.{AreQuiet, IsQuiet, QuietHasOwnPagesAlone, QuietIsAlone, QuietOwesAlone}
+use Rattle.quiet_law.specs.Quiet.{IsQuietInBoth, IsQuiet, QuietHasOwnPagesAlone, QuietIsAlone, QuietOwesAlone}
 use Rattle.run_model.specs.Slices.{IsEndOf, SlicesEndLast, SlicesEndStopped}
 use Rattle.quiet_law.proofs.Slicing.{at_slice_end, ready}
 
@@ -26,7 +26,7 @@ module _ (granted : GrantedMay) (again : AgainAsks) (rich : RichestHasMost) (tak
       let still = (ready granted again rich takable system e t some quiet t (omega arith)).still in
       record { accepts_nobody = still.nothing.deaf; owns_none = still.clear.owned; sees_none = still.nothing.sees }
 
-  module _ (left right : System) (e n t u : ℕ) (both : AreQuiet left right e n t u) where
+  module _ (left right : System) (e n t u : ℕ) (both : IsQuietInBoth left right e n t u) where
     right_some : 0 < right.image.quantum
     right_some = subst (λ q. 0 < q) both.quantum_same both.quantum_some
 

@@ -50,30 +50,30 @@ abbrev pub item_first : Item → Course → Course
 item_first item rest = record { items = item ∷ rest.items; excess = rest.excess }
 
 -- behind an answer the slice goes on, but not behind that to a yield
-abbrev pub after_answer : (Solo → Course) → ℕ → Solo → Bool → Course
-after_answer rest excess s true = slice_over excess
-after_answer rest excess s false = rest s
+abbrev pub answer_course : (Solo → Course) → ℕ → Solo → Bool → Course
+answer_course rest excess s true = slice_over excess
+answer_course rest excess s false = rest s
 
 -- What comes behind a step that is a call, quiet or not: at another call the slice is told no further.
-abbrev pub after_call : (Solo → Course) → ℕ → Solo → Option Call → Bool → Course
-after_call rest excess s call true =
+abbrev pub call_course : (Solo → Course) → ℕ → Solo → Option Call → Bool → Course
+call_course rest excess s call true =
     let answer = Answer (answer_alone s call)
-    in item_first answer (after_answer rest excess (absorb s answer) (is_yield call))
-after_call rest excess s call false = slice_over excess
+    in item_first answer (answer_course rest excess (absorb s answer) (is_yield call))
+call_course rest excess s call false = slice_over excess
 
 -- what comes behind a step, by what it comes to; the dead owe nothing
-abbrev pub after_act : (Solo → Course) → ℕ → Solo → Act → Course
-after_act rest excess s Nothing = rest s
-after_act rest excess s (Stores store) = rest s
-after_act rest excess s (Calls call) = after_call rest excess s call (is_quiet_call s.cpu call)
-after_act rest excess s (Raises exc) = rest s
-after_act rest excess s (Dies cause) = slice_over 0
+abbrev pub act_course : (Solo → Course) → ℕ → Solo → Act → Course
+act_course rest excess s Nothing = rest s
+act_course rest excess s (Stores store) = rest s
+act_course rest excess s (Calls call) = call_course rest excess s call (is_quiet_call s.cpu call)
+act_course rest excess s (Raises exc) = rest s
+act_course rest excess s (Dies cause) = slice_over 0
 
 -- so many ticks of a quantum in which an environment owes so much, and then what comes at its end
 abbrev pub ticks_alone : (Solo → Course) → ℕ → ℕ → Solo → Course
 ticks_alone at_end excess zero s = at_end s
 ticks_alone at_end excess (suc left) s =
-    item_first Step (after_act (ticks_alone at_end excess left) excess (absorb s Step) (act_of s (step_alone s)))
+    item_first Step (act_course (ticks_alone at_end excess left) excess (absorb s Step) (act_of s (step_alone s)))
 
 -- The end of a quantum of grace, behind which so many more are granted.
 abbrev pub grace_end : ℕ → ℕ → Solo → Course

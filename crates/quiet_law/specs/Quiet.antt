@@ -49,7 +49,7 @@ QuietOwesAlone = (system : System) (e n t : ℕ) → 0 < system.image.quantum �
 
 -- In each of two systems so many ticks end the slice n of an environment that is quiet in them, is given the same at
 -- boot, and has one quantum.
-pub record AreQuiet (left right : System) (e n t u : ℕ) : Type 0 where
+pub record IsQuietInBoth (left right : System) (e n t u : ℕ) : Type 0 where
   pub record_same : boot_items left.image e ≡ boot_items right.image e
   pub quantum_same : left.image.quantum ≡ right.image.quantum
   pub quantum_some : 0 < left.image.quantum
@@ -60,8 +60,8 @@ pub record AreQuiet (left right : System) (e n t u : ℕ) : Type 0 where
 
 -- Then its feeds up to there are the same, whatever else the systems are.
 abbrev pub QuietIsSame : Type 0
-QuietIsSame = (left right : System) (e n t u : ℕ) → AreQuiet left right e n t u → feed left e t ≡ feed right e u
+QuietIsSame = (left right : System) (e n t u : ℕ) → IsQuietInBoth left right e n t u → feed left e t ≡ feed right e u
 
 abbrev pub QuietOwesSame : Type 0
-QuietOwesSame = (left right : System) (e n t u : ℕ) → AreQuiet left right e n t u
+QuietOwesSame = (left right : System) (e n t u : ℕ) → IsQuietInBoth left right e n t u
     → (world_after left t).book.excess e ≡ (world_after right u).book.excess e

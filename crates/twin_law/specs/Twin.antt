@@ -2,9 +2,9 @@
 use Rattle.std.specs.Prelude.{◌≡◌, ℕ}
 use Rattle.run_model.specs.Run.{System, world_after}
 use Rattle.run_report.specs.Report.{env_text}
-use Rattle.quiet_law.specs.Quiet.{AreQuiet}
+use Rattle.quiet_law.specs.Quiet.{IsQuietInBoth}
 
 -- At the end of its slice n a quiet environment is shown alike in two systems.
 abbrev pub QuietIsShownAlike : Type 0
-QuietIsShownAlike = (left right : System) (e n t u : ℕ) → AreQuiet left right e n t u
+QuietIsShownAlike = (left right : System) (e n t u : ℕ) → IsQuietInBoth left right e n t u
     → env_text (world_after left t) e ≡ env_text (world_after right u) e
