@@ -1,19 +1,17 @@
 -- The runner's step over the rows of the TLB, and what is refilled, on a sound board.
-use Rattle.std.proofs.Common.{◌≡◌, ◌≢◌, ◌<◌, ℕ, List, length, length-set, Bool, true, false, Option, Some, None, refl, sym, ◌∙◌, ap, subst, arith, rules}
-use Rattle.std.specs.Prelude.{◌==◌, ◌≤◌, ◌-◌, if◌then◌else◌, is_some, slice_get, slice_set, IsSome, MatchOption}
+use Rattle.std.proofs.Common.{◌≡◌, ◌≢◌, ◌<◌, ℕ, List, length, Bool, true, false, Option, Some, None, refl, sym, ◌∙◌, ap, subst, arith, rules}
+use Rattle.std.specs.Prelude.{◌==◌, ◌≤◌, ◌-◌, if◌then◌else◌, IsSome, MatchOption}
 use Rattle.std.specs.Option.{option_map, option_or}
 use Rattle.std.proofs.lemmas.Bool.{eqb-true}
-use Rattle.aegis_limits.specs.Limits.{environment_numbers, vpn_end, most_pages}
+use Rattle.aegis_limits.specs.Limits.{environment_numbers, vpn_end}
 use Rattle.aegis_limits.specs.declared.version.Version.{Version}
 use Rattle.bind_book.specs.declared.binding.Binding.{Binding}
 use Rattle.bind_book.specs.Stripe.{binding_at, of_number, stripes}
 use Rattle.mips_exec.specs.declared.exception.Outcome.{Outcome}
 use Rattle.env_frames.specs.declared.mapping.Mapping.{Mapping}
 use Rattle.env_frames.specs.Frame.{mapping_at}
-use Rattle.guest_memory.specs.Look.{bound_mapping, mapping_in}
+use Rattle.guest_memory.specs.Look.{bound_mapping}
 use Rattle.guest_memory.specs.Space.{lookup}
-use Rattle.r3k_tlb.specs.declared.row.Row.{Row}
-use Rattle.r3k_tlb.specs.Rows.{row_count, with_row_at}
 use Rattle.r3k_cp0.specs.declared.registers.Cp0.{Cp0}
 use Rattle.r3k_cp0.specs.Random.{fallen, first_random, random_end}
 use Rattle.r3k_cp0.specs.Registers.{current_pid, is_user}
@@ -90,7 +88,10 @@ refilled_rows b e random vpn (Some m) sound small below is =
     record {
       coherent = All-set (IsCoherent (leads_in b.roster.list b.binds) (length b.frames)) b.tlb.rows random (row_for e m)
           (Held (record {
-            env = e; numbered = small; mapping = m; below = subst (λ n. n < vpn_end) (sym at) below;
+            env = e;
+            numbered = small;
+            mapping = m;
+            below = subst (λ n. n < vpn_end) (sym at) below;
             there = lookup_there b e vpn m sound is;
             mapped = leads_lookup b e m.vpn ∙ ap (lookup_of b e) at ∙ is;
             words = refl;

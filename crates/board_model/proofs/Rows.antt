@@ -1,11 +1,11 @@
 -- The rows of the TLB stay coherent with the mappings of the board.
-use Rattle.std.proofs.Common.{◌≡◌, ◌≢◌, ◌<◌, ℕ, ◌+◌, List, [], ◌∷◌, ◌++◌, length, Bool, true, false, Option, Some, None, refl, sym, ◌∙◌, ap, subst, arith, rules}
+use Rattle.std.proofs.Common.{◌≡◌, ◌<◌, ℕ, List, [], ◌∷◌, ◌++◌, length, Bool, true, false, Option, Some, None, refl, sym, ◌∙◌, ap, subst, arith, rules}
 use Rattle.std.specs.Prelude.{◌==◌, ◌&&◌, ◌||◌, if◌then◌else◌, is_some, slice_set}
 use Rattle.std.specs.Option.{option_map, option_or}
 use Rattle.std.proofs.lemmas.List.Elements.{All-replicate}
 use Rattle.std.proofs.lemmas.Option.{slice_get_past}
 use Rattle.aegis_limits.specs.VersionLimits.{stripe_rows}
-use Rattle.std.proofs.lemmas.Bool.{and_parts, cases_eq, eq-eqb, eqb-false, eqb-true, or_parts}
+use Rattle.std.proofs.lemmas.Bool.{and_parts, eq-eqb, eqb-false, eqb-true}
 use Rattle.aegis_limits.specs.Limits.{environment_numbers, vpn_end}
 use Rattle.aegis_limits.specs.declared.version.Version.{Version}
 use Rattle.page_book.specs.declared.row.PageRow.{PageRow}
@@ -21,11 +21,11 @@ use Rattle.guest_memory.specs.Look.{bound_mapping, mapping_in}
 use Rattle.world_model.specs.declared.life.Cause.{Cause}
 use Rattle.r3k_tlb.specs.declared.row.Row.{Row}
 use Rattle.r3k_tlb.specs.Row.{emptied_row, row_page, row_pid, row_vpn}
-use Rattle.r3k_tlb.specs.Rows.{emptied_rows, row_count, has_page, has_pair, has_pid}
+use Rattle.r3k_tlb.specs.Rows.{emptied_rows, row_count, has_page, has_pair}
 use Rattle.tlb_model.specs.Cache.{row_for}
 use Rattle.tlb_model.specs.Flushes.{Flush, OfEnv, OfPage, OfPair, all_flushed, is_flushed, is_of_env, replaced_pair}
 use Rattle.tlb_model.specs.Coherence.{AreCoherent, Emptied, IsCoherent}
-use Rattle.tlb_model.specs.Laws.{AreKept, AreKeptBut, is_any_flushed}
+use Rattle.tlb_model.specs.Laws.{AreKeptBut, is_any_flushed}
 use Rattle.tlb_model.proofs.Fitting.{row_words}
 use Rattle.tlb_model.proofs.Emptying.{emptied, grown}
 use Rattle.board_model.specs.declared.roster.Environment.{Environment}
@@ -145,7 +145,7 @@ death_rows cause frames pages list binds rows e agree = record {
     kept i m small below is none =
         ap (λ ms. mapping_in binds.version ms (stripes (swept (goes_with (row_in pages) e) binds) i) m.vpn) (others i (not_env (row_in pages) e i m small none).0)
         ∙ swept_kept (goes_with (row_in pages) e) list binds (OfEnv (row_in pages) e ∷ [])
-            (λ j n y small below none page. spared j n y small none page) i m small below is none
+        (λ j n y small below none page. spared j n y small none page) i m small below is none
 
 -- A row of a stripe has another binding, or none: what stood there has its rows emptied.
 set_kept : (list : List Environment) (binds : Stripes) (e row : ℕ) (x : Option Binding) (fs : List Flush) → HasStripe binds e → row < stripe_rows binds.version
@@ -215,7 +215,7 @@ unbound_rows frames list binds rows e vpn has agree = record {
 
     by_test : (t : Bool) → is_some (binding_at binds.version (stripes binds e) vpn) ≡ t
         → AreKeptBut (OfPair vpn e ∷ []) (leads_in list binds)
-            (leads_in list (record binds { rows = if t then slice_set binds.rows (stripe_place binds.version e row) None else binds.rows }))
+        (leads_in list (record binds { rows = if t then slice_set binds.rows (stripe_place binds.version e row) None else binds.rows }))
     by_test true bound = set_kept list binds e row None (OfPair vpn e ∷ []) has (row_within binds.version vpn) (hits bound)
     by_test false bound = λ i m small below is none. is
 

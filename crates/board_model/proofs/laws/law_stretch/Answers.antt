@@ -1,5 +1,4 @@
 use Rattle.board_model.proofs.Stretching.{stretch_ticks}
-use Rattle.board_model.proofs.Refills.{lookups_sound, refilled_rows, third_ends, runs_for}
 use Rattle.board_model.proofs.laws.law_stretch.Goals as goal
 
 pub returns : goal.returns
