@@ -90,9 +90,9 @@ def failure(folder: str, system_of: Callable[[int], RandomSystem], seed: int, se
     return f"seed {seed}, {system.ticks} ticks, status {ran.returncode}: {difference(text, found)}"
 
 
-def main(name: str, system_of: Callable[[int], RandomSystem], least: Dict[Thing, int], seeds: int) -> None:
-    """Runs so many seeds of the systems that `system_of` makes of a number. `least` has how often each thing is to happen in
-    as many seeds as these."""
+def main(name: str, system_of: Callable[[int], RandomSystem], least: Dict[Thing, int], seeds: int, failure: Callable[..., Any] = failure) -> None:
+    """Runs so many seeds of the systems that `system_of` makes of a number, each by `failure`. `least` has how often each thing is to
+    happen in as many seeds as these."""
     reader = argparse.ArgumentParser()
     reader.add_argument("--seeds", type=int, default=seeds)
     reader.add_argument("--from", type=int, default=0, dest="first")

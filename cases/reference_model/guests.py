@@ -122,6 +122,8 @@ class Traffic:
 class Guest(Program):
     """A program with a page of code and a page of data, in which its filters stand."""
 
+    MAKES = Handlers
+
     def __init__(self, chance: random.Random, system: System, number: int):
         super().__init__(chance, system, number)
         self.traffic, self.rings, self.ring_pages = system.traffic, [], []
@@ -135,7 +137,7 @@ class Guest(Program):
             place += 12 * len(atoms)
         self.keep(LOOP_FILTER, atoms_in_memory(((0, 1, 0xFF, number), (1, 1, 0xFF, 0))))
         self.handlers, place = [], HANDLERS
-        makes = Handlers(chance)
+        makes = self.MAKES(chance)
         while place < LOOP_FILTER - 0x100:
             words = makes.words() if self.handlers else makes.loud()
             place += chance.choice((0, 0, 1, 2))
@@ -454,13 +456,17 @@ class System:
         self.slots += [chance.choice((*range(count), 255)) for _ in range(chance.randrange(4))]
         chance.shuffle(self.slots)
         self.quantum, self.ticks = chance.randrange(16, 100), chance.randrange(*chance.choice(((40,), *[(300, 1000)] * 3, *[(1000, 3000)] * 5)))
-        self.traffic, self.revokes, self.deadlines = Traffic(chance), chance.choice((0, 0, 0.1, 0.3, 0.5)), []
+        self.traffic, self.revokes, self.deadlines = self.new_traffic(), chance.choice((0, 0, 0.1, 0.3, 0.5)), []
         programs = [self.program(environment, stack) for environment, stack in enumerate(stacks)]
         self.image = binary.image(self.pages, self.quantum, self.slots, programs, self.version)
         self.schedule = self.text_of(self.events())
         if chance.random() < 0.02:
             place = chance.randrange(len(self.image))
             self.image = self.image[:place] + chance.randbytes(1) + self.image[place + 1 :]
+
+    def new_traffic(self) -> Traffic:
+        """The filters that are asked for, and the packets."""
+        return Traffic(self.chance)
 
     def environments(self) -> int:
         """How many there are."""

@@ -1,7 +1,8 @@
 """Ticks and whole runs: docs/KERNEL.md, "A tick"."""
 from __future__ import annotations
 
-from typing import List
+from collections import deque
+from typing import Deque, List
 
 from board import ENDS, Board, Env, Memory
 from calls import make_call
@@ -13,13 +14,17 @@ MOST_EXCESS = 8
 
 def run(image: Image, events: List[Event], ticks: int) -> Board:
     """The board after so many ticks, or once it is idle."""
-    board, place = Board(image), 0
+    board, coming = Board(image), deque(events)
     while board.time < ticks and not board.is_idle():
-        while place < len(events) and events[place].tick == board.time:
-            happen(board, events[place])
-            place += 1
+        happen_now(board, coming)
         tick(board)
     return board
+
+
+def happen_now(board: Board, coming: Deque[Event]) -> None:
+    """The events of this tick happen, which come no more."""
+    while coming and coming[0].tick == board.time:
+        happen(board, coming.popleft())
 
 
 def happen(board: Board, event: Event) -> None:

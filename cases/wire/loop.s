@@ -1,0 +1,3 @@
+# Runs for ever.
+start:  b    start
+        nop
