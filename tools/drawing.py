@@ -390,10 +390,22 @@ class Drawing:
         self.parts: List[str] = []
         self.seen: set = set()  # kinds of marks, and what else the legend explains
 
+    @property
+    def width(self) -> float:
+        return GUTTER + self.picture.width + MARGIN
+
+    @property
+    def height(self) -> float:
+        return self.bottom + AXIS + 8
+
     def svg(self, ending: str) -> str:
         """The whole drawing; `ending` says how the run ended where its end is in the range."""
-        width, height = GUTTER + self.picture.width + MARGIN, self.bottom + AXIS + 8
-        self.axis(ending)
+        body = self.body(ending, self.picture.end)
+        return whole(self.width, self.height, f"{self.picture.what}s down, ticks across, a bar for each slice", f"{self.defs()}\n{body}")
+
+    def body(self, ending: str, ended: int) -> str:
+        """All that is drawn, from (0, 0) on, with a line at the tick at which the run ended."""
+        self.axis(ending, ended)
         for (what, which), place in self.places.items():
             self.lane(what, which, place)
         for piece in self.picture.bars:
@@ -412,10 +424,7 @@ class Drawing:
             self.use(kind, self.x(time + 1), place.bar + place.bar_height / 2, env, row)
         for number_of, note in enumerate(self.notes, 1):
             self.note(number_of, note)
-        body = "\n".join(self.parts)
-        return (f'<svg class="ledger" viewBox="0 0 {number(width)} {number(height)}" '
-                f'style="width: {number(width)}px" role="img" '
-                f'aria-label="{self.picture.what}s down, ticks across, a bar for each slice">\n{self.defs()}\n{body}\n</svg>')
+        return "\n".join(self.parts)
 
     def x(self, tick: float) -> float:
         return GUTTER + self.picture.x(tick)
@@ -440,10 +449,10 @@ class Drawing:
 
     # Axes and lanes
 
-    def axis(self, ending: str) -> None:
+    def axis(self, ending: str, ended: int) -> None:
         """Ticks across, above and below."""
         picture = self.picture
-        end = GUTTER + picture.width
+        end = self.x(ended)
         for tick in axis_ticks(picture.first, picture.end, picture.width):
             x = number(self.x(tick))
             self.put(f'<path class="grid" d="M{x} {AXIS - 4}V{number(self.bottom + 4)}"/>')
@@ -455,7 +464,7 @@ class Drawing:
             self.put(f'<path class="grid" d="{steps}"/>')
         if ending:
             self.put(f'<path class="ending" d="M{number(end)} {AXIS - 4}V{number(self.bottom + 4)}"/>')
-            self.put(f'<text class="axis ending" x="{number(end + MARGIN - 2)}" y="{number(self.bottom + 33)}">'
+            self.put(f'<text class="axis ending" x="{number(max(end, GUTTER + 60) + MARGIN - 2)}" y="{number(self.bottom + 33)}">'
                      f'{ending}</text>')
 
     def lane(self, what: str, which: int, place: Place) -> None:
@@ -629,6 +638,12 @@ class Drawing:
         style = "none" if env is None else f"k{env}"
         self.put(f'<use class="mark {style}" href="#m-{kind}" x="{number(x)}" y="{number(y)}">'
                  f'<title>{says}</title></use>')
+
+
+def whole(width: float, height: float, says: str, inside: str) -> str:
+    """An SVG of this size; `says` is what it shows."""
+    return (f'<svg class="ledger" viewBox="0 0 {number(width)} {number(height)}" style="width: {number(width)}px" role="img" '
+            f'aria-label="{says}">\n{inside}\n</svg>')
 
 
 def share(column: Column) -> float:

@@ -18,6 +18,7 @@ MOST_SENT = 256  # packets of an environment
 MOST_EVENTS = 65_536  # of a schedule
 MOST_ASKED = 4_096  # pages of a revocation
 MOST_TARGET, MOST_LINE = 31, 7  # an environment that a revocation names, and an interrupt line
+MOST_MACHINES, MOST_DELAY, MOST_WIRE_TICKS = 8, 65_536, 1_048_576  # of a wire
 FILE_LIMIT = 67_108_864  # bytes
 
 
