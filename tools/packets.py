@@ -16,7 +16,7 @@ from limits import LEAST_FRAME_SIZE, MOST_DELAY, MOST_PACKET_SIZE, MOST_TICKS
 RECEIVER, ALL_OTHERS = 5, 0xFF  # the byte of a packet that names the machine, and the number for all of them
 NO_WIRE = "this program has no command `wire`: build the one of this version, or name it by AEGIS"
 
-LINE = re.compile(r"(\d{1,7}) ([0-7]) (\d\d?) ((?:[0-9a-f]{2}){%d,%d})\n?" % (LEAST_FRAME_SIZE, MOST_PACKET_SIZE), re.ASCII)
+LINE = re.compile(r"(\d{1,7}) ([0-7]) (\d\d?) ((?:[0-9a-f]{2}){%d,%d})" % (LEAST_FRAME_SIZE, MOST_PACKET_SIZE), re.ASCII)
 Counts = Dict[Tuple[int, int], int]  # by machine and environment, how many packets were sent
 
 
@@ -101,19 +101,25 @@ def event_tick(line: str) -> int:
     return int(word, 16 if word.startswith("0x") else 10)
 
 
-def read_packets(path: str) -> Tuple[int, List[Packet]]:
-    """The delay and the packets of a file. A line of another form is a ValueError that says so."""
+def packets_of(text: str, name: str) -> Tuple[int, List[Packet]]:
+    """The delay and the packets of a file with this name. A line of another form is a ValueError that says so."""
+    head, *lines = text.splitlines() or [""]
+    delay = re.fullmatch(r"delay (\d{1,5})", head, re.ASCII)
+    if not delay or not 1 <= int(delay[1]) <= MOST_DELAY:
+        raise ValueError(f"{name} line 1 isn't `delay N`")
     packets: List[Packet] = []
-    with open(path, encoding="ascii", errors="replace") as file:
-        delay = re.fullmatch(r"delay (\d{1,5})\n?", file.readline())
-        if not delay or not 1 <= int(delay[1]) <= MOST_DELAY:
-            raise ValueError(f"{path}: line 1 isn't `delay N`")
-        for count, line in enumerate(file, 2):
-            found = LINE.fullmatch(line)
-            if not found or packets and int(found[1]) < packets[-1].tick:
-                raise ValueError(f"{path}: line {count} isn't `TICK MACHINE ENV BYTES`, or its tick is below the one before")
-            packets.append(Packet(int(found[1]), int(found[2]), int(found[3]), bytes.fromhex(found[4])))
+    for count, line in enumerate(lines, 2):
+        found = LINE.fullmatch(line)
+        if not found or packets and int(found[1]) < packets[-1].tick:
+            raise ValueError(f"{name} line {count} isn't `TICK MACHINE ENV BYTES`, or its tick is below the one before")
+        packets.append(Packet(int(found[1]), int(found[2]), int(found[3]), bytes.fromhex(found[4])))
     return int(delay[1]), packets
+
+
+def read_packets(path: str) -> Tuple[int, List[Packet]]:
+    """The delay and the packets of a file."""
+    with open(path, encoding="latin-1", newline="\n") as file:
+        return packets_of(file.read(), f"{path}:")
 
 
 def packets_text(delay: int, packets: Iterable[Packet]) -> str:
