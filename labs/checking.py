@@ -25,6 +25,7 @@ LABS = os.path.dirname(os.path.realpath(__file__))
 TOOLS = f"{os.path.dirname(LABS)}/tools"
 sys.path.insert(0, TOOLS)
 from built import program
+from packets import NO_WIRE, reports
 from report import CAUSES, Cpu, Environment, Lines, Mark, Report, read, read_head
 from shown import decoded, open_output, shown
 from source import read_source
@@ -94,6 +95,8 @@ class Call:
 def aegis(*words: str, cwd: str) -> bytes:
     """What the program writes."""
     ran = subprocess.run([program(), *words], stdout=subprocess.PIPE, cwd=cwd)
+    if ran.returncode == 2 and words[0] == "wire":
+        raise Missing(f"Nothing can be looked at: {NO_WIRE}.")
     if ran.returncode:
         raise Missing(f"`aegis {' '.join(words)}` ended with {ran.returncode}: {ran.stdout.decode(errors='replace').strip()}")
     return ran.stdout
@@ -175,6 +178,33 @@ class Machine:
         spoilt = [f"${at} is 0x{new:x} and was 0x{old:x} at the first try" for at, (old, new) in
                   enumerate(zip(first.arguments, last.arguments), 4) if old != new]
         return said + (f"; {', '.join(spoilt)}: what another call takes stands in it" if spoilt else "")
+
+
+class Net:
+    """Machines on a wire, with a delay, which run as long as one likes."""
+
+    def __init__(self, machines: Sequence[Machine], delay: int):
+        self.files = [word for it in machines for word in (f"{it.room}/{it.image}", "/dev/null")]
+        self.delay, self.texts = delay, {}
+        self.machines = [WiredMachine(self, at, it) for at, it in enumerate(machines)]
+
+    def written(self, at: int, ticks: int) -> str:
+        """The text of a machine's report."""
+        if ticks not in self.texts:
+            said = aegis("wire", str(self.delay), str(ticks), *self.files, cwd=self.machines[at].room)
+            self.texts[ticks] = reports(said.decode("latin-1"))
+        return self.texts[ticks][at]
+
+
+class WiredMachine(Machine):
+    """A machine on a wire."""
+
+    def __init__(self, net: Net, at: int, alone: Machine):
+        super().__init__(alone.lab, alone.room, alone.image, alone.files)
+        self.net, self.at = net, at
+
+    def written(self, ticks: int) -> io.StringIO:
+        return io.StringIO(self.net.written(self.at, ticks), newline="\n")
 
 
 class Lab:
