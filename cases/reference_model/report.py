@@ -3,7 +3,7 @@ from __future__ import annotations
 
 import sys
 from hashlib import sha256
-from typing import Iterator, Optional, Sequence, Tuple, Union
+from typing import Callable, Iterator, Optional, Sequence, Tuple, Union
 
 from board import Board, Env
 from files import Fault, read_image, read_schedule
@@ -42,9 +42,13 @@ def living_lines(board: Board, env: Env) -> Iterator[str]:
         yield f"bind {env.number} {vpn:05x} {page} {'w' if is_writable else 'r'}"
 
 
+def end_line(board: Board, ticks: int) -> str:
+    return f"end {'limit' if board.time == ticks else 'idle'} {board.time}"
+
+
 def report_lines(board: Board, ticks: int) -> Iterator[str]:
     yield "aegis run"
-    yield f"end {'limit' if board.time == ticks else 'idle'} {board.time}"
+    yield end_line(board, ticks)
     for env in board.envs:
         yield from env_lines(board, env)
     yield from board.rows
@@ -54,15 +58,18 @@ def report_lines(board: Board, ticks: int) -> Iterator[str]:
     yield "done"
 
 
-def answer(files: Sequence[Tuple[str, bytes]], ticks: int) -> Tuple[int, str, Optional[Board]]:
-    """The status and the text of `run IMAGE SCHEDULE TICKS`, and the board if there is one; files are (name, bytes), image first."""
+def answer(
+    files: Sequence[Tuple[str, bytes]], ticks: int, finish: Optional[Callable[[Board], None]] = None
+) -> Tuple[int, str, Optional[Board]]:
+    """The status and the text of `run IMAGE SCHEDULE TICKS`, and the board if there is one; files are (name, bytes), image first.
+    `finish` is what is done of a tick behind its turn."""
     read = []
     for (name, content), reader in zip(files, (read_image, read_schedule)):
         try:
             read.append(reader(content))
         except Fault as fault:
             return REFUSED, f"aegis: {name}: {fault}\n", None
-    board = run(*read, ticks)
+    board = run(*read, ticks, finish)
     return DONE, "".join(f"{line}\n" for line in report_lines(board, ticks)), board
 
 

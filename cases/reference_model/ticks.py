@@ -2,7 +2,7 @@
 from __future__ import annotations
 
 from collections import deque
-from typing import Deque, List
+from typing import Callable, Deque, List, Optional
 
 from board import ENDS, Board, Env, Memory
 from calls import make_call
@@ -12,12 +12,13 @@ from machine import KernelCall, Trap, step
 MOST_EXCESS = 8
 
 
-def run(image: Image, events: List[Event], ticks: int) -> Board:
-    """The board after so many ticks, or once it is idle."""
+def run(image: Image, events: List[Event], ticks: int, finish: Optional[Callable[[Board], None]] = None) -> Board:
+    """The board after so many ticks, or once it is idle. `finish` is what is done of a tick behind its turn."""
     board, coming = Board(image), deque(events)
     while board.time < ticks and not board.is_idle():
         happen_now(board, coming)
-        tick(board)
+        begin_tick(board)
+        (finish or finish_tick)(board)
     return board
 
 
@@ -36,14 +37,25 @@ def happen(board: Board, event: Event) -> None:
         board.signal(event.line)
 
 
-def tick(board: Board) -> None:
+def begin_tick(board: Board) -> None:
+    """Deadlines and the turn: then somebody runs."""
     board.serve()
     if board.runner is None:
         take_turn(board)
+
+
+def finish_tick(board: Board) -> None:
+    """The step, the timer and the time."""
     make_step(board, board.runner)
     if board.runner:
         count(board)
     board.time += 1
+
+
+def tick(board: Board) -> None:
+    """A whole tick."""
+    begin_tick(board)
+    finish_tick(board)
 
 
 def take_turn(board: Board) -> None:

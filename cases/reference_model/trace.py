@@ -1,0 +1,66 @@
+"""What a trace writes: docs/REPORT.md, "A trace". `python3 trace.py IMAGE SCHEDULE TICKS ENV` writes it."""
+import sys
+
+from board import Memory
+from listing import text_of_word
+from machine import Trap
+from report import answer, end_line
+from ticks import finish_tick
+
+NAMES = [f"${number}" for number in range(1, 32)] + ["hi", "lo"]
+
+
+def values(env):
+    """What a line tells of an environment's registers: $1 to $31, HI and LO."""
+    return [*env.cpu.regs[1:], env.cpu.hi, env.cpu.lo]
+
+
+def instruction(board, env):
+    """The word at which an environment stands, and its text; or that the fetch is refused."""
+    pc = env.cpu.pc
+    try:
+        if pc % 4:
+            raise Trap(0)
+        word = Memory(board, env).fetch(pc)
+    except Trap:
+        return "-------- fetch"
+    return f"{word:08x} {text_of_word(word, pc)}"
+
+
+class Traces:
+    """The lines of each environment, as they come tick by tick."""
+
+    def __init__(self):
+        self.lines = {}
+
+    def finish(self, board):
+        """The step of a tick, and what stands in a line after it."""
+        env = board.runner
+        before = values(env)
+        line = f"{board.time} {env.cpu.pc:08x} {instruction(board, env)}"
+        finish_tick(board)
+        if not env.is_alive:
+            line += " dead"
+        else:
+            line += "".join(f" {name} {new:08x}" for name, old, new in zip(NAMES, before, values(env)) if old != new)
+        self.lines.setdefault(env.number, []).append(line)
+
+    def text(self, board, ticks, number):
+        """The trace of an environment, which may be none of the image."""
+        lines = [f"aegis trace {number}", *self.lines.get(number, ()), end_line(board, ticks), "done"]
+        return "".join(f"{line}\n" for line in lines)
+
+
+def main():
+    files, traces = [], Traces()
+    for name in sys.argv[1:3]:
+        with open(name, "rb") as file:
+            files.append((name, file.read()))
+    ticks, number = map(int, sys.argv[3:])
+    status, text, board = answer(files, ticks, traces.finish)
+    print(traces.text(board, ticks, number) if board else text, end="")
+    sys.exit(status)
+
+
+if __name__ == "__main__":
+    main()
