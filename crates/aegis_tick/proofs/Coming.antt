@@ -71,7 +71,7 @@ behind t later (x ∷ xs) after =
     ]
 
 -- and they are in order from the next time on
-rest_in_order : (t : ℕ) (xs : List EventValue) → are_in_order t xs ≡ true → are_in_order (t + 1) (drop (first_at t xs) xs) ≡ true
+pub rest_in_order : (t : ℕ) (xs : List EventValue) → are_in_order t xs ≡ true → are_in_order (t + 1) (drop (first_at t xs) xs) ≡ true
 rest_in_order t [] ordered = refl
 rest_in_order t (x ∷ xs) ordered =
     let parts = and_parts (nat_le t x.time) (are_in_order x.time xs) ordered in
@@ -85,10 +85,10 @@ rest_in_order t (x ∷ xs) ordered =
     ]
 
 -- what happens now, and what happens later
-happens_now : (t : ℕ) (xs : List EventValue) → are_in_order t xs ≡ true → schedule_of xs t ≡ occurrences (take (first_at t xs) xs)
+pub happens_now : (t : ℕ) (xs : List EventValue) → are_in_order t xs ≡ true → schedule_of xs t ≡ occurrences (take (first_at t xs) xs)
 happens_now t xs ordered = ap occurrences (firsts t xs ordered)
 
-happens_later : (t later : ℕ) (xs : List EventValue) → t < later → schedule_of xs later ≡ schedule_of (drop (first_at t xs) xs) later
+pub happens_later : (t later : ℕ) (xs : List EventValue) → t < later → schedule_of xs later ≡ schedule_of (drop (first_at t xs) xs) later
 happens_later t later xs after = ap occurrences (behind t later xs after)
 
 -- The first events, so many, are over, and of those behind them these are of the next tick's time.

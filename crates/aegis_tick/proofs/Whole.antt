@@ -8,7 +8,7 @@ use Rattle.run_model.specs.Run.{next_phases, next_world, world_after_ticks}
 next_idle : (schedule : Schedule) (w : World) → is_idle_book w.book ≡ true → next_world schedule w ≡ w
 next_idle schedule w idle = rw idle refl
 
-next_busy : (schedule : Schedule) (w : World) → is_idle_book w.book ≡ false → next_world schedule w ≡ run_phases w (next_phases schedule w)
+pub next_busy : (schedule : Schedule) (w : World) → is_idle_book w.book ≡ false → next_world schedule w ≡ run_phases w (next_phases schedule w)
 next_busy schedule w busy = rw busy refl
 
 -- an idle world stays as it is

@@ -3,7 +3,7 @@ use Rattle.std.specs.Prelude.{◌≡◌, ℕ, ◌+◌, ◌*◌, ◌<◌, ◌≤�
 use Rattle.external_event.specs.declared.event.Occurrence.{Occurrence}
 use Rattle.external_event.specs.EventValue.{EventValue}
 use Rattle.world_model.specs.Book.{is_idle_book}
-use Rattle.world_model.specs.Event.{Schedule, happen}
+use Rattle.world_model.specs.Event.{Schedule, happen, schedule_of}
 use Rattle.world_model.specs.World.{World, run_phases}
 use Rattle.run_model.specs.Run.{happens_in, world_after_ticks}
 use Rattle.aegis_calls.specs.Rows.{tick_rows}
@@ -38,3 +38,13 @@ HappenedInPart happens w v = (k : ℕ) × (v ≡ world_with (take k happens) w)
 -- Where the rows of so many events and ticks are spare, none of them is refused, and no more of these rows are taken.
 abbrev pub IsSure : {T E : Type 0} → ℕ → Result T E → ℕ → ℕ → Type 0
 IsSure steps result spare left = tick_rows * steps ≤ spare → IsOk result × (spare ≤ left + tick_rows * steps)
+
+-- Where the rows of so many events and of a tick are spare, none of the events is refused, and the rows of the tick are
+-- left.
+abbrev pub IsReady : {T E : Type 0} → ℕ → Result T E → ℕ → ℕ → Type 0
+IsReady events result spare left =
+    tick_rows * (events + 1) ≤ spare → IsOk result × (spare ≤ left + tick_rows * events)
+
+-- These events are those of the others that come after a time.
+abbrev pub AreLater : ℕ → List EventValue → List EventValue → Type 0
+AreLater time events later = (t : ℕ) → time < t → schedule_of events t ≡ schedule_of later t

@@ -13,8 +13,10 @@ ghost use Rattle.world_model.specs.Tick.{tick_step};
 ghost use Rattle.world_model.specs.World.{after};
 ghost use Rattle.run_model.specs.Excess.{IsAccounted};
 ghost use Rattle.run_model.specs.Run.{world_after_ticks, end_of_run};
-ghost use Rattle.aegis_tick.specs.Course.{HappenedInPart, IsCutOff, IsSure, next_time_of, occurrences, world_with};
+ghost use Rattle.aegis_tick.specs.Course.{HappenedInPart, IsCutOff, IsReady, IsSure, next_time_of, occurrences, world_with};
 
+use crate::halves::{begin_tick, finish_tick};
+use crate::laws::law_halves;
 use aegis_calls::{Board, SERVE_ROWS, STEP_ROWS, TURN_ROWS};
 use aegis_limits::OutOfMemory;
 use external_event::Event;
@@ -49,7 +51,7 @@ pub fn event(board: &mut Board, event: &Event)
 }
 
 /// One tick in which nothing happens from outside: the deadlines that have come, the turn, the runner's step, and the
-/// timer. It takes no memory. A tick makes one claim at most, so that the number of the next claim is at most the time.
+/// timer. It is its two halves, and takes no memory. A tick makes one claim at most, so that the number of the next claim is at most the time.
 pub fn tick(board: &mut Board)
     requires may { MayTick board.old }
     requires room { TICK_ROWS ≤ board.old.ledger.spare }
@@ -57,14 +59,13 @@ pub fn tick(board: &mut Board)
     ensures ticked { IsTicked board.old board.new }
     ensures room { board.old.ledger.spare ≤ board.new.ledger.spare + TICK_ROWS }
 {
-    board.serve();
-    board.turn();
-    board.step();
-    board.timer();
+    law_halves();
+    begin_tick(board);
+    finish_tick(board);
 }
 
 /// How many of these events are of this time, before the first of another.
-fn count_at(events: &[Event], time: u32) -> usize
+pub(crate) fn count_at(events: &[Event], time: u32) -> usize
     ensures { result ≡ prefix_len (λ (e : EventValue). e.time == time) events.now }
 {
     events.iter().take_while(|event| event.time == time).count()
@@ -123,6 +124,21 @@ fn happen_all(board: &mut Board, events: &[Event]) -> Result<(), OutOfMemory>
     Ok(())
 }
 
+/// What happens in a tick: these events, in their order. After Ok there are the rows for the rest of the tick.
+pub(crate) fn happen_first(board: &mut Board, events: &[Event]) -> Result<(), OutOfMemory>
+    requires may { MayTick board.old }
+    ensures world { OnOk result (world_of board.new ≡ world_with (occurrences events.now) (world_of board.old)) }
+    ensures may { OnOk result (MayTick board.new) }
+    ensures same { OnOk result (IsSameTick board.old board.new) }
+    ensures room { OnOk result (TICK_ROWS ≤ board.new.ledger.spare) }
+    ensures part { OnErr result (HappenedInPart (occurrences events.now) (world_of board.old) (world_of board.new)) }
+    ensures sure { IsReady (length events.now) result board.old.ledger.spare board.new.ledger.spare }
+{
+    happen_all(board, events)?;
+    make_room(board, TICK_ROWS)?;
+    Ok(())
+}
+
 /// One tick with what happens in it: these events, in their order, and then the rest of the tick.
 fn tick_with(board: &mut Board, events: &[Event]) -> Result<(), OutOfMemory>
     requires may { MayTick board.old }
@@ -131,8 +147,7 @@ fn tick_with(board: &mut Board, events: &[Event]) -> Result<(), OutOfMemory>
     ensures ticked { OnOk result (IsTicked board.old board.new) }
     ensures sure { IsSure (length events.now + 1) result board.old.ledger.spare board.new.ledger.spare }
 {
-    happen_all(board, events)?;
-    make_room(board, TICK_ROWS)?;
+    happen_first(board, events)?;
     tick(board);
     Ok(())
 }
@@ -163,6 +178,17 @@ fn run_ticks(board: &mut Board, events: &[Event], ticks: u32) -> Result<(), OutO
     Ok(())
 }
 
+/// How a run that may have had so many ticks ended: at the limit where time reached it, else because the board is idle.
+pub fn end_of_run(board: &Board, ticks: u32) -> RunEnd
+    ensures { result ≡ end_of_run (world_of board.now) ticks }
+{
+    if board.time() == ticks {
+        RunEnd::Limit
+    } else {
+        RunEnd::Idle
+    }
+}
+
 /// Runs a freshly booted board for so many ticks, in which these events happen, each at the beginning of the tick of
 /// its time. An idle board stays as it is, and no event happens on it. The run ends at the limit exactly where the time
 /// reached it, else because the board is idle. After a refusal the board is that of a whole number of ticks, and of
@@ -179,9 +205,5 @@ pub fn run(board: &mut Board, events: &[Event], ticks: u32) -> Result<RunEnd, Ou
     ensures sure { TICK_ROWS * (length events.now + ticks) ≤ board.old.ledger.spare → IsOk result }
 {
     run_ticks(board, events, ticks)?;
-    if board.time() == ticks {
-        Ok(RunEnd::Limit)
-    } else {
-        Ok(RunEnd::Idle)
-    }
+    Ok(end_of_run(board, ticks))
 }

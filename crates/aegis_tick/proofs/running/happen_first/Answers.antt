@@ -9,10 +9,10 @@ use Rattle.world_model.specs.World.{World}
 use Rattle.aegis_tick.specs.Course.{occurrences, world_with}
 use Rattle.aegis_tick.proofs.Happening.{still_busy}
 use Rattle.aegis_tick.proofs.Refusals.{on_err}
-use Rattle.aegis_tick.proofs.running.tick_with.Goals as goal
+use Rattle.aegis_tick.proofs.running.happen_first.Goals as goal
 
-pub tick-requires-clause-may : goal.tick-requires-clause-may
-tick-requires-clause-may c =
+pub returns-clause-may : goal.returns-clause-may
+returns-clause-may c =
     let w = world_of c.args.board.now in
     let room = c.in_ok-make_room.ensures.same in
     let happened = c.in_ok-happen_all.ensures.same in
