@@ -1,5 +1,6 @@
 pub mod RunImage
 pub mod LoadSeed
 pub mod AuditLedger
+pub mod TraceEnv
 pub mod Words
 pub mod Headline

@@ -11,6 +11,8 @@ mod quantum;
 mod run_image;
 mod ticks;
 mod top;
+mod trace_env;
+mod traced_ticks;
 mod words;
 
 pub use commands::Status;

@@ -10,6 +10,7 @@ ghost use Rattle.aegis_command.specs.Words.{asked_by, command_seen};
 use crate::audit_ledger::AuditLedger;
 use crate::load_seed::LoadSeed;
 use crate::run_image::RunImage;
+use crate::trace_env::TraceEnv;
 use commands::{Answer, Asm, ListElf, MakeImage, Stop, perform};
 use edge_io::Shelf;
 use std::alloc::Global;
@@ -29,6 +30,8 @@ pub enum Words<'a> {
     LoadSeed(LoadSeed),
     /// `audit REPORT QUANTUM`, and a plan or none.
     AuditLedger(AuditLedger<'a>),
+    /// `trace IMAGE SCHEDULE TICKS ENV`.
+    TraceEnv(TraceEnv<'a>),
 }
 
 /// The one word that there is.
@@ -70,6 +73,9 @@ pub fn parse(words: &[String]) -> Option<Words<'_>>
     if word == "audit" {
         return Some(Words::AuditLedger(AuditLedger::parse(rest)?));
     }
+    if word == "trace" {
+        return Some(Words::TraceEnv(TraceEnv::parse(rest)?));
+    }
     None
 }
 
@@ -91,5 +97,6 @@ pub fn perform_words<S: Shelf>(
         Words::MakeImage(command) => perform(alloc, &command, shelf),
         Words::LoadSeed(command) => perform(alloc, &command, shelf),
         Words::AuditLedger(command) => perform(alloc, &command, shelf),
+        Words::TraceEnv(command) => perform(alloc, &command, shelf),
     }
 }

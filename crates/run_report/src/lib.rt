@@ -18,4 +18,4 @@ mod text;
 mod words;
 
 pub use environment::env_lines;
-pub use text::{push_summary, report};
+pub use text::{push_end_line, push_summary, report};

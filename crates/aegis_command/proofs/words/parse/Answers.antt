@@ -34,3 +34,9 @@ returns-in_err-parse-2 c = grind (arith, common_steps)
 
 pub returns-then-eq-5 : goal.returns-then-eq-5
 returns-then-eq-5 c = grind (arith, common_steps)
+
+pub returns-in_err-parse-3 : goal.returns-in_err-parse-3
+returns-in_err-parse-3 c = grind (arith, common_steps)
+
+pub returns-then-eq-6 : goal.returns-then-eq-6
+returns-then-eq-6 c = grind (arith, common_steps)

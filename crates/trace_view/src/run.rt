@@ -1,0 +1,106 @@
+//! The trace of a whole run.
+ghost use Rattle.std.specs.Prelude.{◌≡◌, ◌++◌, [], ◌∷◌, ◌≤◌, codes, IfOk, OnOk, true};
+ghost use Rattle.trace_view.specs.Limit.{most_traced_ticks};
+ghost use Rattle.external_event.specs.Order.{are_in_order};
+ghost use Rattle.line_text.specs.Text.{dec_text};
+ghost use Rattle.line_text.specs.WrittenLine.{line};
+ghost use Rattle.world_model.specs.Event.{schedule_of};
+ghost use Rattle.run_model.specs.Run.{world_after_ticks};
+ghost use Rattle.board_model.specs.Showing.{world_of};
+ghost use Rattle.board_model.specs.Ticks.{IsFresh, IsTicked, MayTick};
+ghost use Rattle.aegis_tick.specs.Course.{occurrences, world_with};
+ghost use Rattle.aegis_tick.specs.Halves.{first_half, second_half};
+ghost use Rattle.trace_view.specs.Trace.{tick_line, tick_lines, trace_text};
+
+use crate::step::push_step;
+use aegis_calls::Board;
+use aegis_limits::OutOfMemory;
+use aegis_tick::{begin_with, boot, due_and_later, end_of_run, finish_tick, law_halves, law_idle};
+use boot_image::Image;
+use external_event::Event;
+use line_text::{Word, push_line, push_word};
+use run_report::push_end_line;
+use std::alloc::Global;
+use world_model::WorldView;
+
+/// Makes a tick in which these events happen, and appends the line of the environment's step, if it makes one.
+fn push_tick(
+    out: &mut Vec<u8>,
+    board: &mut Board,
+    events: &[Event],
+    env: u8,
+) -> Result<(), OutOfMemory>
+    requires { MayTick board.old }
+    ensures text { OnOk result (out.new.items ≡ out.old.items ++ tick_line env (first_half (world_with (occurrences events.now) (world_of board.old))) (world_of board.new)) }
+    ensures world { OnOk result (world_of board.new ≡ second_half (first_half (world_with (occurrences events.now) (world_of board.old)))) }
+    ensures ticked { OnOk result (IsTicked board.old board.new) }
+{
+    begin_with(board, events)?;
+    if env < board.envs() && board.runner() == Some(env) {
+        return push_step(out, board, env);
+    }
+    finish_tick(board);
+    Ok(())
+}
+
+/// Makes so many ticks with the events of their times, or fewer where the board is idle before, and appends the lines of
+/// the environment's steps.
+fn push_ticks(
+    out: &mut Vec<u8>,
+    board: &mut Board,
+    events: &[Event],
+    ticks: u32,
+    env: u8,
+) -> Result<(), OutOfMemory>
+    requires fresh { IsFresh board.old }
+    requires order { are_in_order 0 events.now ≡ true }
+    requires limit { ticks ≤ most_traced_ticks }
+    ensures text { OnOk result (out.new.items ≡ out.old.items ++ tick_lines (schedule_of events.now) (world_of board.old) env (world_of board.new).book.time) }
+    ensures world { OnOk result (world_of board.new ≡ world_after_ticks (schedule_of events.now) (world_of board.old) ticks) }
+{
+    law_halves();
+    law_idle();
+    let mut left = events;
+    for done in 0..ticks {
+        if board.idle() {
+            return Ok(());
+        }
+        let (now, later) = due_and_later(left, done);
+        push_tick(out, board, now, env)?;
+        left = later;
+    }
+    Ok(())
+}
+
+/// Appends the line that names the environment.
+#[tactic(auto, unfolding(line_text::specs::WrittenLine::line_of))]
+fn push_heading(out: &mut Vec<u8>, env: u8) -> Result<(), OutOfMemory>
+    ensures { OnOk result (out.new.items ≡ out.old.items ++ line (codes "aegis" ∷ codes "trace" ∷ dec_text env ∷ [])) }
+{
+    let number = Word::Number(u64::from(env));
+    push_line(out, b"aegis", &[Word::Text(b"trace"), number])
+}
+
+/// The trace of an environment in a run of an image for so many ticks, in which these events happen
+/// (`docs/REPORT.md`, "The trace"): a line for each tick in which it makes a step, and how the run ended. An environment
+/// that the image lacks has no line. Ticks go up to `MOST_TRACED_TICKS`.
+#[tactic(auto, unfolding(crate::specs::Trace::trace_text))]
+pub fn trace(
+    alloc: Global,
+    image: &Image<'_>,
+    events: &[Event],
+    ticks: u32,
+    env: u8,
+) -> Result<Vec<u8>, OutOfMemory>
+    requires order { are_in_order 0 events.now ≡ true }
+    requires limit { ticks ≤ most_traced_ticks }
+    ensures { IfOk result (λ text. text.items ≡ trace_text image.now events.now ticks env) }
+{
+    let mut board = boot(alloc, image)?;
+    let mut out = Vec::new(alloc);
+    push_heading(&mut out, env)?;
+    push_ticks(&mut out, &mut board, events, ticks, env)?;
+    push_end_line(&mut out, &board, end_of_run(&board, ticks))?;
+    push_word(&mut out, Word::Text(b"done\n"))?;
+    Ok(out)
+}
