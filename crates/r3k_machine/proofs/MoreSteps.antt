@@ -1,11 +1,11 @@
 -- More steps retire.
-use Rattle.std.proofs.Common.{◌≡◌, ◌⊎◌, inl, inr, ℕ, zero, suc, ◌+◌, ◌-◌, ◌<◌, true, ap, sym, ◌∙◌, arith, add-one, add-zero, add-suc, List, length, rules}
+use Rattle.std.proofs.Common.{◌≡◌, ◌⊎◌, inl, inr, ℕ, zero, suc, ◌+◌, ◌-◌, ◌<◌, true, false, ap, sym, ◌∙◌, arith, add-one, add-zero, add-suc, List, length, rules}
 use Rattle.mips_exec.specs.Step.{Step, outcome_of}
 use Rattle.mips_step.specs.WordStep.{has_retired}
 use Rattle.r3k_tlb.specs.declared.row.Row.{Row}
 use Rattle.r3k_cp0.specs.declared.registers.Cp0.{Cp0}
 use Rattle.r3k_machine.specs.declared.code.CodePage.{CodePage}
-use Rattle.r3k_machine.specs.Code.{IsCode}
+use Rattle.r3k_machine.specs.Code.{IsCode, has}
 use Rattle.r3k_machine.specs.Steps.{Retires, RowStepsRetire, Running, after_row_step, after_row_steps, next_row_step}
 
 retires : (step : Step) → has_retired step ≡ true → Retires step
@@ -51,6 +51,13 @@ retires_in c rows m n i k j at first then (inr beyond) =
 pub all_more : (c : Cp0) (rows : List Row) (m n : Running) (k j : ℕ) → n ≡ after_row_steps c rows m k → RowStepsRetire c rows m k
     → RowStepsRetire c rows n j → RowStepsRetire c rows m (k + j)
 all_more c rows m n k j at first then = record { each = λ i h. retires_in c rows m n i k j at first then (below_or_beyond i k j h) }
+
+-- a program that has left a page has made a step
+pub has_moved : (c : Cp0) (rows : List Row) (m n : Running) (k : ℕ) (code : CodePage) → n ≡ after_row_steps c rows m k
+    → has code m.cpu.pc ≡ true → has code n.cpu.pc ≡ false → 0 < k
+has_moved c rows m n zero code at inside outside =
+    absurd (search (rules, (sym (ap (λ (n : Running). has code n.cpu.pc) at) ∙ outside)))
+has_moved c rows m n (suc k) code at inside outside = omega arith
 
 -- a page that is fetched from still is, in as many pages of memory
 pub still_code : (c : Cp0) (rows : List Row) (frames new : List (List ℕ)) (code : CodePage) → length new ≡ length frames

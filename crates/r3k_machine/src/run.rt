@@ -52,7 +52,7 @@ fn run_page(
     ensures machine { record { cpu = joined live.new; frames = frames.new } ≡ after_row_steps cp0.now tlb.now (record { cpu = joined live.old; frames = frames.old }) result }
     ensures retire { RowStepsRetire cp0.now tlb.now (record { cpu = joined live.old; frames = frames.old }) result }
     ensures most { result ≤ most }
-    ensures none { 0 < most → has code live.old.pc ≡ true → result ≡ 0 → has_retired (row_step cp0.now tlb.now frames.new (joined live.new)) ≡ false }
+    ensures stop { result < most → has code live.new.pc ≡ true → has_retired (row_step cp0.now tlb.now frames.new (joined live.new)) ≡ false }
     ensures size { length frames.new ≡ length frames.old }
 {
     for done in 0..most {
@@ -83,11 +83,10 @@ pub(crate) fn run_rows(cpu: &mut Cpu, frames: &mut Frames, tlb: &Tlb, cp0: &Cp0,
         let Some(code) = CodePage::of(frames, tlb, cp0, live.pc) else {
             break;
         };
-        let steps = run_page(&mut live, frames, tlb, cp0, code, most - done);
-        if steps == 0 {
+        done += run_page(&mut live, frames, tlb, cp0, code, most - done);
+        if code.has(live.pc) {
             break;
         }
-        done += steps;
     }
     live.settle();
     done

@@ -9,5 +9,5 @@ loop-done-preserved c = search (rules, after_one_more, all_and_one_more, still_c
 pub returns-then-not-retire_word-clause-machine : goal.returns-then-not-retire_word-clause-machine
 returns-then-not-retire_word-clause-machine c = search (rules, cpu_stays, frames_stay)
 
-pub returns-then-not-retire_word-clause-none : goal.returns-then-not-retire_word-clause-none
-returns-then-not-retire_word-clause-none c = search (rules, cpu_stays, frames_stay)
+pub returns-then-not-retire_word-clause-stop : goal.returns-then-not-retire_word-clause-stop
+returns-then-not-retire_word-clause-stop c = search (rules, cpu_stays, frames_stay)
