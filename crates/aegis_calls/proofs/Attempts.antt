@@ -122,10 +122,10 @@ module _ (b : Shown) (e : ℕ) (m n : Machine) (frames : List (List ℕ)) (made 
       let f = flat_end (lookup_of b) e m.cp0 b.tlb.rows b.frames b.cpu its (λ exc is. not_refill o exc (sym end ∙ end_is ∙ is)) in
       let st = step_seen b e in
       let frames_now : frames ≡ frames_after b.frames (lookup_of b e) (write_after st) =
-          frames_is ∙ ap (λ st. frames_written m.cp0 b.tlb.rows b.frames (write_after st)) f.flat.step ∙ f.flat.memory in
+      frames_is ∙ ap (λ st. frames_written m.cp0 b.tlb.rows b.frames (write_after st)) f.flat.step ∙ f.flat.memory in
       let cpu_now : n.cpu ≡ cpu_after b.cpu st = cpu_is ∙ ap (cpu_after b.cpu) f.flat.step in
       let missed : with_random_fallen b.tlb ≡ with_random_fallen (if is_missed st then with_forwarded e b.tlb else b.tlb) =
-          ap (λ (t : Bool). with_random_fallen (if t then with_forwarded e b.tlb else b.tlb)) (sym f.flat.missed) in
+      ap (λ (t : Bool). with_random_fallen (if t then with_forwarded e b.tlb else b.tlb)) (sym f.flat.missed) in
       record {
         next = ap (mapping_of_miss (lookup_of b e)) f.found;
         board =
@@ -158,13 +158,15 @@ module _ (b : Shown) (e : ℕ) (m n : Machine) (frames : List (List ℕ)) (made 
       let at : exc.bad / page_size ≡ x.vpn = sym (lookup_number b e (exc.bad / page_size) x leads) in
       let written : rows ≡ with_row_at b.tlb.rows b.tlb.random (row_for e x) = rows_now ∙ ap (λ r. with_row_at n.tlb r (row_for e x)) named ∙ ap (λ rs. with_row_at rs b.tlb.random (row_for e x)) rows_is in
       let counted : fills ≡ with_fills (with_refill (is_kept_by (mappings_of b.roster.list e) x.vpn)) e b.tlb.fills =
-          fills_now ∙ ap (λ v. with_fills (with_refill (is_kept_by (mappings_of b.roster.list e) v)) e b.tlb.fills) at in
+      fills_now ∙ ap (λ v. with_fills (with_refill (is_kept_by (mappings_of b.roster.list e) v)) e b.tlb.fills) at in
       record {
         mapping = x;
         next = ap (mapping_of_miss (lookup_of b e)) miss.missing ∙ leads;
         board = λ i. record b {
-          frames = frames_kept exc miss.step i; cpu = cpu_kept exc miss.step i;
-          tlb = record { rows = written i; random = random_is i; fills = counted i } };
+          frames = frames_kept exc miss.step i;
+          cpu = cpu_kept exc miss.step i;
+          tlb = record { rows = written i; random = random_is i; fills = counted i };
+        };
       }
 
   -- the miss was forwarded
@@ -219,7 +221,7 @@ module _ (b : Shown) (e : ℕ) (m n : Machine) (frames : List (List ℕ)) (made 
         let small = vpn_small exc miss in
         let agree = refilled_rows b e random (exc.bad / page_size) (lookup_of b e (exc.bad / page_size)) made.sound made.small small refl in
         let now : RowsAgree b.frames b.roster.list b.binds rows =
-            subst (RowsAgree b.frames b.roster.list b.binds) (sym (rows_now ∙ ap (rows_after_miss random e (lookup_of b e (exc.bad / page_size))) rows_is)) agree in
+        subst (RowsAgree b.frames b.roster.list b.binds) (sym (rows_now ∙ ap (rows_after_miss random e (lookup_of b e (exc.bad / page_size))) rows_is)) agree in
         sound_machine (sound_frames frames size (sound_tlb (record { rows = rows; random = n.cp0.random; fills = fills }) now made.sound))
 
 -- ---- many steps that retire

@@ -1,17 +1,17 @@
 //! The board and what it shows.
 
+use aegis_limits::ENVIRONMENT_NUMBERS;
 use bind_book::Bindings;
 use board_model::{Clock, Lines, Roster};
 use filter_tree::Claims;
 use frame_store::Frames;
 use kernel_journal::Journal;
 use page_book::Pages;
+use r3k_machine::Machine;
 use revocation_book::Revocations;
 use slot_vector::Slots;
 use std::marker::Model;
 use tlb_model::Fills;
-use r3k_machine::Machine;
-use aegis_limits::ENVIRONMENT_NUMBERS;
 
 /// The machine, the environments on it, and the kernel's books.
 #[derive(Drop)]

@@ -8,17 +8,16 @@ ghost use Rattle.run_model.specs.Boot.{bare_world, with_program};
 ghost use Rattle.board_model.specs.Showing.{world_of};
 
 use crate::board::Board;
-use aegis_limits::{OutOfMemory, Version, law_versions_are_within};
+use aegis_limits::{ENVIRONMENT_NUMBERS, OutOfMemory, Version, law_versions_are_within};
 use board_boot::{bare_memory, boot_journal, load};
 use board_model::{Clock, Lines, Roster};
 use boot_image::Program;
 use filter_tree::Claims;
+use r3k_machine::Machine;
 use revocation_book::Revocations;
 use slot_vector::Slots;
 use std::alloc::Global;
 use tlb_model::Fills;
-use r3k_machine::Machine;
-use aegis_limits::ENVIRONMENT_NUMBERS;
 
 impl Board {
     ghost use Rattle.board_model.specs.Loading.{IsBare};

@@ -64,7 +64,11 @@ fn push_report_line<V: WorldView>(
 
 /// Appends the line of how the run ended, and when.
 #[tactic(auto, unfolding(crate::specs::Report::end_line, line_text::specs::WrittenLine::line_of))]
-pub fn push_end_line<V: WorldView>(out: &mut Vec<u8>, view: &V, end: RunEnd) -> Result<(), OutOfMemory>
+pub fn push_end_line<V: WorldView>(
+    out: &mut Vec<u8>,
+    view: &V,
+    end: RunEnd,
+) -> Result<(), OutOfMemory>
     ensures { OnOk result (out.new.items ≡ out.old.items ++ end_line (V.world view.now) end) }
 {
     let how = Word::Text(end_text(end));

@@ -31,13 +31,13 @@ returns-clause-after c =
     let first : c.set_user.new.self.cpu ≡ b.cpu = ap (λ (m : Machine). m.cpu) c.set_user.ensures.machine in
     let rows : c.set_user.new.self.tlb ≡ b.tlb.rows = ap (λ (m : Machine). m.tlb) c.set_user.ensures.machine in
     let ran = c.run-ticks.ensures.machine
-        ∙ ap (λ rs. after_row_steps c.set_user.new.self.cp0 rs (record { cpu = c.set_user.new.self.cpu; frames = b.frames }) c.run-ticks.result) rows
-        ∙ ap (λ x. after_row_steps c.set_user.new.self.cp0 b.tlb.rows (record { cpu = x; frames = b.frames }) c.run-ticks.result) first in
+    ∙ ap (λ rs. after_row_steps c.set_user.new.self.cp0 rs (record { cpu = c.set_user.new.self.cpu; frames = b.frames }) c.run-ticks.result) rows
+    ∙ ap (λ x. after_row_steps c.set_user.new.self.cp0 b.tlb.rows (record { cpu = x; frames = b.frames }) c.run-ticks.result) first in
     let cpu = ap (λ (r : Running). r.cpu) ran ∙ (flat c).registers in
     let frames = ap (λ (r : Running). r.frames) ran ∙ (flat c).memory in
     let kept : c.run-ticks.new.self.tlb ≡ b.tlb.rows = c.run-ticks.ensures.rows ∙ rows in
     let random : c.run-ticks.new.self.cp0.random ≡ fallen_times b.tlb.random c.run-ticks.result =
-        ap (λ (x : Cp0). x.random) c.run-ticks.ensures.cp0 ∙ ap (λ (m : Machine). fallen_times m.cp0.random c.run-ticks.result) c.set_user.ensures.machine in
+    ap (λ (x : Cp0). x.random) c.run-ticks.ensures.cp0 ∙ ap (λ (m : Machine). fallen_times m.cp0.random c.run-ticks.result) c.set_user.ensures.machine in
     (λ i. record b { frames = frames i; cpu = cpu i; slots = c.pass.ensures i; time = c.pass-2.ensures i; tlb = record b.tlb { rows = kept i; random = random i } })
     ∙ ap (λ (s : Shown). stretched s c.args.env c.run-ticks.result) c.self.view_is
 

@@ -93,7 +93,7 @@ rows_now c =
 
 fills_now : (c : goal.Joined-is_refilled) → c.answer_miss-is_refilled.new.fills
     ≡ fills_after_miss (is_kept_by (mappings_of c.self.inside.roster.list c.args.env) (c.in-Refill.exc.bad / page_size)) c.args.env
-        (lookup_of (seen c.self.view_is) c.args.env (c.in-Refill.exc.bad / page_size)) c.self.inside.fills
+    (lookup_of (seen c.self.view_is) c.args.env (c.in-Refill.exc.bad / page_size)) c.self.inside.fills
 fills_now c =
     c.answer_miss-is_refilled.ensures.fills
     ∙ ap (λ (x : SpaceValue). fills_after_miss (is_kept_by x.mappings (c.in-Refill.exc.bad / page_size)) x.number (lookup x (c.in-Refill.exc.bad / page_size)) c.self.inside.fills) c.space_in-space.ensures
@@ -108,7 +108,7 @@ invariant_of-self-in-Refill c =
 
 pub returns-after-is_refilled : goal.returns-after-is_refilled
 returns-after-is_refilled c = elim c.if-is_refilled.branch [
-  then-is_refilled w ↦ rw w.result-is
+  | then-is_refilled w ↦ rw w.result-is
       (refilled_as_shown c.self.view_is
       (answered_by_refill (seen c.self.view_is) c.args.env c.set_user.new.self c.user_step.new.self c.user_step.new.frames (made_answer c) c.in-Refill.exc c.random-random.result
       c.answer_miss-is_refilled.new.tlb c.answer_miss-is_refilled.new.fills (its_miss c) c.random-random.ensures.row (rows_now c) (fills_now c) (is_answer c ∙ w.if-is_refilled.true)))
@@ -116,4 +116,4 @@ returns-after-is_refilled c = elim c.if-is_refilled.branch [
       (attempted_as_shown c.self.view_is
       (answered_by_forward (seen c.self.view_is) c.args.env c.set_user.new.self c.user_step.new.self c.user_step.new.frames (made_answer c) c.in-Refill.exc c.random-random.result
       c.answer_miss-is_refilled.new.tlb c.answer_miss-is_refilled.new.fills (its_miss c) c.random-random.ensures.row (rows_now c) (fills_now c) (is_answer c ∙ w.if-is_refilled.false)))
-  ]
+]
