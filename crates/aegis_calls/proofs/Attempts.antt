@@ -2,11 +2,10 @@
 use Rattle.std.proofs.Common.{◌≡◌, ◌<◌, ℕ, ◌/◌, List, Bool, true, false, Option, Some, None, refl, sym, ◌∙◌, ap, subst, arith, rules, length}
 use Rattle.std.specs.Prelude.{if◌then◌else◌, is_some}
 use Rattle.aegis_limits.specs.Limits.{environment_numbers, page_size, vpn_end}
-use Rattle.mips_exec.specs.declared.registers.Cpu.{Cpu}
 use Rattle.mips_exec.specs.declared.exception.Exc.{Exc}
 use Rattle.mips_exec.specs.declared.exception.Outcome.{Outcome}
 use Rattle.mips_exec.specs.declared.exception.Outcome.TheVariants as outcome
-use Rattle.mips_exec.specs.Step.{Step, Trapped, cpu_after, outcome_of, write_after}
+use Rattle.mips_exec.specs.Step.{Trapped, cpu_after, outcome_of, write_after}
 use Rattle.env_frames.specs.declared.mapping.Mapping.{Mapping}
 use Rattle.guest_memory.specs.Look.{frames_after}
 use Rattle.r3k_tlb.specs.declared.row.Row.{Row}
@@ -14,19 +13,18 @@ use Rattle.r3k_cp0.specs.declared.registers.Cp0.{Cp0}
 use Rattle.r3k_cp0.specs.Random.{fallen}
 use Rattle.r3k_cp0.specs.Registers.{current_pid, is_user}
 use Rattle.r3k_machine.specs.declared.machine.Machine.{Machine}
-use Rattle.r3k_machine.specs.declared.machine.MachineEnd.{MachineEnd}
 use Rattle.r3k_machine.specs.declared.machine.MachineEnd.TheVariants as ends
 use Rattle.r3k_machine.specs.Machine.{after_attempts, end_of, user_step}
 use Rattle.r3k_machine.specs.Exceptions.{as_user}
 use Rattle.r3k_machine.specs.Memory.{frames_written, row_step}
 use Rattle.tlb_model.specs.declared.fills.Fills.{Fills}
 use Rattle.r3k_tlb.specs.Rows.{with_row_at}
-use Rattle.tlb_model.specs.Cache.{Cache, row_for, with_fills, with_forwarded, with_random_fallen, with_refill}
+use Rattle.tlb_model.specs.Cache.{row_for, with_fills, with_forwarded, with_random_fallen, with_refill}
 use Rattle.tlb_model.specs.Lookups.{is_missed, mapping_of_miss}
-use Rattle.r3k_machine.specs.Steps.{RowStepsRetire, Running, after_row_steps}
+use Rattle.r3k_machine.specs.Steps.{RowStepsRetire}
 use Rattle.tlb_laws.specs.Laws.{RunIsFlat, RunsFor, end_without_refill}
 use Rattle.tlb_laws.proofs.Running.{runs_are_flat}
-use Rattle.tlb_laws.proofs.Ending.{Flat, Missed, flat_end, missed_end}
+use Rattle.tlb_laws.proofs.Ending.{Missed, flat_end, missed_end}
 use Rattle.board_model.specs.Shown.{Shown, mappings_of}
 use Rattle.board_model.specs.Sound.{IsSoundBoard, RowsAgree}
 use Rattle.board_model.specs.Doing.{lookup_of, step_seen}

@@ -1,5 +1,5 @@
 -- A step has at most two refills.
-use Rattle.std.proofs.Common.{arith, refl, length, ◌+◌}
+use Rattle.std.proofs.Common.{arith, refl}
 use Rattle.board_model.proofs.Refills.{third_ends}
 use Rattle.aegis_calls.proofs.Runner.{runner_there}
 use Rattle.aegis_calls.proofs.board.Board.run_machine.Goals as goal

@@ -1,6 +1,5 @@
 -- Plain ticks over the rows of the TLB.
-use Rattle.std.proofs.Common.{rules, ◌≡◌, ◌<◌, ℕ, ap, sym, ◌∙◌, refl, subst, arith, length, List, Option, Some}
-use Rattle.mips_exec.specs.declared.registers.Cpu.{Cpu}
+use Rattle.std.proofs.Common.{rules, ◌≡◌, ◌<◌, ℕ, ap, ◌∙◌, refl, subst, arith, Option, Some}
 use Rattle.r3k_cp0.specs.declared.registers.Cp0.{Cp0}
 use Rattle.r3k_cp0.specs.Random.{fallen_times}
 use Rattle.r3k_machine.specs.declared.machine.Machine.{Machine}

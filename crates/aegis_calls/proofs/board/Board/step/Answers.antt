@@ -1,5 +1,5 @@
 -- The step is the model's, over the board on which its accesses were looked up.
-use Rattle.std.proofs.Common.{◌≡◌, ◌<◌, ap, sym, ◌∙◌, refl, arith, length, ◌+◌}
+use Rattle.std.proofs.Common.{◌<◌, ap, sym, ◌∙◌, refl, arith}
 use Rattle.aegis_limits.specs.Limits.{environment_numbers}
 use Rattle.board_model.specs.Shown.{Shown}
 use Rattle.board_model.specs.Showing.{world_of}

@@ -1,5 +1,5 @@
 -- An attempt of the runner's step.
-use Rattle.std.proofs.Common.{rules, ◌≡◌, ◌<◌, Some, None, Option, ℕ, ap, sym, ◌∙◌, refl, subst, arith, length, Bool, true, false, ◌/◌}
+use Rattle.std.proofs.Common.{◌≡◌, ◌<◌, Some, None, Option, ℕ, ap, sym, ◌∙◌, refl, subst, arith, ◌/◌}
 use Rattle.std.specs.Prelude.{IfSome, is_some}
 use Rattle.mips_exec.specs.declared.exception.Outcome.TheVariants as outcome
 use Rattle.env_frames.specs.declared.mapping.Mapping.{Mapping}
@@ -9,7 +9,7 @@ use Rattle.guest_memory.specs.Space.{SpaceValue, lookup}
 use Rattle.board_model.specs.Refilling.{fills_after_miss, is_kept_by, rows_after_miss}
 use Rattle.board_model.specs.Shown.{Shown, mappings_of}
 use Rattle.board_model.specs.Doing.{lookup_of}
-use Rattle.board_model.proofs.Refills.{lookup_number, lookup_there, refilled_rows}
+use Rattle.board_model.proofs.Refills.{lookup_number, lookup_there}
 use Rattle.aegis_calls.proofs.Attempts.{IsMade, attempt_made, attempted_as_shown, answered_by_forward, answered_by_refill, answered_sound, its, made_of, missed, refilled_as_shown, vpn_small}
 use Rattle.tlb_laws.proofs.Ending.{Missed}
 use Rattle.aegis_calls.proofs.Runner.{runner_live, seen}
