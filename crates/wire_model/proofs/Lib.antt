@@ -1,0 +1,2 @@
+mod Time
+mod Settled

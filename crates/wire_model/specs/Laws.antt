@@ -1,0 +1,26 @@
+-- The laws of machines on a wire.
+use Rattle.std.specs.Prelude.{◌≡◌, ◌<◌, ◌≤◌, ℕ, false}
+use Rattle.world_model.specs.Book.{is_idle_book}
+use Rattle.world_model.specs.Event.{Schedule}
+use Rattle.world_model.specs.World.{World}
+use Rattle.run_model.specs.Run.{world_after_ticks}
+use Rattle.wire_model.specs.Wire.{Wire, wired, world_in, world_on_wire}
+
+-- A world that begins at time 0 is at its tick's time as long as it isn't idle.
+abbrev pub TimeIsTick : Type 0
+TimeIsTick = (schedule : Schedule) (w : World) (t : ℕ) → w.book.time ≡ 0
+    → is_idle_book (world_after_ticks schedule w t).book ≡ false → (world_after_ticks schedule w t).book.time ≡ t
+
+-- Its run to a tick reads its schedule below that tick alone.
+abbrev pub ReadsBelow : Type 0
+ReadsBelow = (one other : Schedule) (w : World) (t : ℕ) → w.book.time ≡ 0
+    → ((u : ℕ) → u < t → one u ≡ other u) → world_after_ticks one w t ≡ world_after_ticks other w t
+
+-- every machine begins at time 0
+abbrev pub BeginAtZero : Wire → Type 0
+BeginAtZero wire = (i : ℕ) → i < wire.count → (wire.machines i).start.book.time ≡ 0
+
+-- What is known of the machines' schedules below a tick settles their worlds up to it.
+abbrev pub WorldsAreSettled : Type 0
+WorldsAreSettled = (wire : Wire) (i t known : ℕ) → BeginAtZero wire → i < wire.count → t ≤ known
+    → world_in wire (wired wire known) i t ≡ world_on_wire wire i t

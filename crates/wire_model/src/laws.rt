@@ -1,0 +1,17 @@
+//! The laws of machines on a wire.
+ghost use Rattle.wire_model.specs.Laws.{ReadsBelow, TimeIsTick, WorldsAreSettled};
+
+/// A world that begins at time 0 is at its tick's time as long as it isn't idle.
+pub fn law_time()
+    ensures { TimeIsTick }
+{}
+
+/// The run of such a world to a tick reads its schedule below that tick alone.
+pub fn law_reads_below()
+    ensures { ReadsBelow }
+{}
+
+/// What is known of the machines' schedules below a tick settles their worlds up to it.
+pub fn law_settled()
+    ensures { WorldsAreSettled }
+{}
