@@ -1,10 +1,10 @@
 -- The laws of machines on a wire.
-use Rattle.std.specs.Prelude.{◌≡◌, ◌<◌, ◌≤◌, ℕ, false}
+use Rattle.std.specs.Prelude.{◌≡◌, ◌<◌, ◌≤◌, ◌++◌, ℕ, suc, false}
 use Rattle.world_model.specs.Book.{is_idle_book}
 use Rattle.world_model.specs.Event.{Schedule}
 use Rattle.world_model.specs.World.{World}
 use Rattle.run_model.specs.Run.{world_after_ticks}
-use Rattle.wire_model.specs.Wire.{Wire, wired, world_in, world_on_wire}
+use Rattle.wire_model.specs.Wire.{Wire, after_tick, arrivals, put_on_wire, wired, world_in, world_on_wire}
 
 -- A world that begins at time 0 is at its tick's time as long as it isn't idle.
 abbrev pub TimeIsTick : Type 0
@@ -24,3 +24,14 @@ BeginAtZero wire = (i : ℕ) → i < wire.count → (wire.machines i).start.book
 abbrev pub WorldsAreSettled : Type 0
 WorldsAreSettled = (wire : Wire) (i t known : ℕ) → BeginAtZero wire → i < wire.count → t ≤ known
     → world_in wire (wired wire known) i t ≡ world_on_wire wire i t
+
+-- so it settles what was put on the wire before it
+abbrev pub FramesAreSettled : Type 0
+FramesAreSettled = (wire : Wire) (t known : ℕ) → BeginAtZero wire → t < known
+    → put_on_wire wire (wired wire known) t ≡ put_on_wire wire (wired wire (suc t)) t
+
+-- A tick on the wire: what happens in it is what the machine's schedule says and then what arrives.
+abbrev pub TicksOnWire : Type 0
+TicksOnWire = (wire : Wire) (i t : ℕ) → BeginAtZero wire → i < wire.count
+    → world_on_wire wire i (suc t) ≡ after_tick ((wire.machines i).schedule t ++ arrivals wire (wired wire t) t i)
+      (world_on_wire wire i t)

@@ -3,9 +3,11 @@ use Rattle.std.specs.Prelude.{ℕ, zero, suc, ◌-◌, List, [], ◌++◌, Bool,
 use Rattle.external_event.specs.declared.event.Occurrence.{Occurrence}
 use Rattle.external_event.specs.declared.event.Occurrence.TheVariants as outside
 use Rattle.external_event.specs.Packet.{is_packet}
-use Rattle.world_model.specs.Event.{Schedule}
+use Rattle.world_model.specs.Book.{is_idle_book}
+use Rattle.world_model.specs.Event.{Schedule, happen}
 use Rattle.world_model.specs.Table.{set_at}
-use Rattle.world_model.specs.World.{World}
+use Rattle.world_model.specs.Tick.{tick_step}
+use Rattle.world_model.specs.World.{World, run_phases}
 use Rattle.run_model.specs.Run.{world_after_ticks}
 use Rattle.wire_model.specs.Limits.{all_others}
 
@@ -82,3 +84,7 @@ wired wire (suc t) machine tick =
 -- the world of a machine on the wire after so many ticks
 abbrev pub world_on_wire : Wire → ℕ → ℕ → World
 world_on_wire wire machine t = world_in wire (wired wire t) machine t
+
+-- the world after a tick in which this happens; an idle one stays as it is
+abbrev pub after_tick : List Occurrence → World → World
+after_tick happens w = if is_idle_book w.book then w else tick_step (run_phases w (map happen happens))

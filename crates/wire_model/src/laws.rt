@@ -1,5 +1,5 @@
 //! The laws of machines on a wire.
-ghost use Rattle.wire_model.specs.Laws.{ReadsBelow, TimeIsTick, WorldsAreSettled};
+ghost use Rattle.wire_model.specs.Laws.{FramesAreSettled, ReadsBelow, TicksOnWire, TimeIsTick, WorldsAreSettled};
 
 /// A world that begins at time 0 is at its tick's time as long as it isn't idle.
 pub fn law_time()
@@ -11,7 +11,14 @@ pub fn law_reads_below()
     ensures { ReadsBelow }
 {}
 
-/// What is known of the machines' schedules below a tick settles their worlds up to it.
+/// What is known of the machines' schedules below a tick settles their worlds up to it, and what they put on the wire
+/// before it.
 pub fn law_settled()
-    ensures { WorldsAreSettled }
+    ensures worlds { WorldsAreSettled }
+    ensures frames { FramesAreSettled }
+{}
+
+/// In a tick on the wire happens what the machine's schedule says, and then what arrives.
+pub fn law_tick()
+    ensures { TicksOnWire }
 {}

@@ -5,4 +5,4 @@
 
 mod laws;
 
-pub use laws::{law_reads_below, law_settled, law_time};
+pub use laws::{law_reads_below, law_settled, law_tick, law_time};
