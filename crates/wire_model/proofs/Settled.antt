@@ -11,7 +11,7 @@ use Rattle.world_model.specs.World.{World, run_phases}
 use Rattle.run_model.specs.Run.{happens_in, next_phases, next_world, takings_next, world_after_ticks}
 use Rattle.run_model.proofs.Phases.{run_append}
 use Rattle.wire_model.specs.Wire.{Frame, Wire, after_tick, arrivals, framed, joined, sent_between, wired, world_in, world_on_wire}
-use Rattle.wire_model.specs.Laws.{FramesAreSettled, ReadsBelow, TicksOnWire, WorldsAreSettled}
+use Rattle.wire_model.specs.Laws.{FramesAreSettled, HappensOnWire, ReadsBelow, TicksOnWire, WorldsAreSettled}
 use Rattle.wire_model.proofs.Time.{time_is_tick}
 
 -- the world of a busy one after a tick in which this happens
@@ -76,13 +76,21 @@ next_tick schedule w happens are =
     (λ idle. rw idle refl)
     (λ busy. rw busy (then_ticks schedule w ∙ ap (λ (xs : List Occurrence). tick_step (run_phases w (map happen xs))) (are busy)))
 
+known_now : (wire : Wire) (i t : ℕ) → wired wire (suc t) i t ≡ (wire.machines i).schedule t ++ arrivals wire (wired wire t) t i
+known_now wire i t = rw (eq-eqb t t refl) refl
+
+pub happens_on_wire : HappensOnWire
+happens_on_wire wire i t zero less = search (arith, rules)
+happens_on_wire wire i t (suc known) less =
+    elim (cases_eq t known) [
+      | inl here ↦ ap (λ (k : ℕ). wired wire (suc k) i t) (sym here) ∙ known_now wire i t
+      | inr other ↦ stays_known wire i known t (omega arith) ∙ happens_on_wire wire i t known (omega arith)
+    ]
+
 pub ticks_on_wire : TicksOnWire
 ticks_on_wire wire i t zeros within =
     let w = world_on_wire wire i t in
     let now = (wire.machines i).schedule t ++ arrivals wire (wired wire t) t i in
     ap (next_world (wired wire (suc t) i)) (worlds_settled wire i t (suc t) zeros within (omega arith))
     ∙ next_tick (wired wire (suc t) i) w now
-    (λ busy. ap (wired wire (suc t) i) (time_is_tick (wired wire t i) (wire.machines i).start t (zeros i within) busy) ∙ known_now wire i t)
-  where
-    known_now : (wire : Wire) (i t : ℕ) → wired wire (suc t) i t ≡ (wire.machines i).schedule t ++ arrivals wire (wired wire t) t i
-    known_now wire i t = rw (eq-eqb t t refl) refl
+    (λ busy. ap (wired wire (suc t) i) (time_is_tick (wired wire t i) (wire.machines i).start t (zeros i within) busy) ∙ happens_on_wire wire i t (suc t) (omega arith))

@@ -30,7 +30,12 @@ abbrev pub FramesAreSettled : Type 0
 FramesAreSettled = (wire : Wire) (t known : ℕ) → BeginAtZero wire → t < known
     → put_on_wire wire (wired wire known) t ≡ put_on_wire wire (wired wire (suc t)) t
 
--- A tick on the wire: what happens in it is what the machine's schedule says and then what arrives.
+-- What happens in a tick, once it is known, is what the machine's schedule says and then what arrives.
+abbrev pub HappensOnWire : Type 0
+HappensOnWire = (wire : Wire) (i t known : ℕ) → t < known
+    → wired wire known i t ≡ (wire.machines i).schedule t ++ arrivals wire (wired wire t) t i
+
+-- So the world behind it is the world before it after a tick in which that happens.
 abbrev pub TicksOnWire : Type 0
 TicksOnWire = (wire : Wire) (i t : ℕ) → BeginAtZero wire → i < wire.count
     → world_on_wire wire i (suc t) ≡ after_tick ((wire.machines i).schedule t ++ arrivals wire (wired wire t) t i)

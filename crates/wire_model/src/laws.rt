@@ -1,5 +1,5 @@
 //! The laws of machines on a wire.
-ghost use Rattle.wire_model.specs.Laws.{FramesAreSettled, ReadsBelow, TicksOnWire, TimeIsTick, WorldsAreSettled};
+ghost use Rattle.wire_model.specs.Laws.{FramesAreSettled, HappensOnWire, ReadsBelow, TicksOnWire, TimeIsTick, WorldsAreSettled};
 
 /// A world that begins at time 0 is at its tick's time as long as it isn't idle.
 pub fn law_time()
@@ -18,7 +18,9 @@ pub fn law_settled()
     ensures frames { FramesAreSettled }
 {}
 
-/// In a tick on the wire happens what the machine's schedule says, and then what arrives.
+/// In a tick on the wire happens what the machine's schedule says, and then what arrives; so the world behind it is the
+/// world before it after such a tick.
 pub fn law_tick()
-    ensures { TicksOnWire }
+    ensures happens { HappensOnWire }
+    ensures ticks { TicksOnWire }
 {}

@@ -1,0 +1,7 @@
+mod Queue
+mod Happening
+mod Coming
+mod Sends
+mod Wiring
+mod Ticking
+mod Progress

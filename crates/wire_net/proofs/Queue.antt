@@ -1,0 +1,94 @@
+-- A queue of batches whose times rise.
+use Rattle.std.proofs.Common.{arith, refl, sym, ◌∙◌, ap, ◌≡◌, ◌≢◌, ◌<◌, ◌≤◌, ◌+◌, ℕ, List, [], ◌∷◌, ◌++◌, inl, inr, length, rules, true, false}
+use Rattle.std.specs.Prelude.{◌==◌, ◌&&◌, nat_le, nat_lt}
+use Rattle.std.proofs.lemmas.Bool.{and_from, and_parts, cases_eq, eq-eqb, eqb-false, le-leb, leb-true, lt-ltb, ltb-true, ne_eqb}
+use Rattle.wire_net.specs.declared.delivery.Batch.{Batch}
+use Rattle.wire_net.specs.declared.delivery.Delivery.{Delivery}
+use Rattle.wire_net.specs.Delivery.{due_at, is_due, rise_between}
+
+-- the first batch of a rising queue, and those behind it
+pub record IsFirst (low limit : ℕ) (batch : Batch) (batches : List Batch) : Type 0 where
+  pub least : low ≤ batch.time
+  pub below : batch.time < limit
+  pub behind : rise_between (batch.time + 1) limit batches ≡ true
+
+first_of : (least limit : ℕ) (batch : Batch) (batches : List Batch) → rise_between least limit (batch ∷ batches) ≡ true → IsFirst least limit batch batches
+first_of least limit batch batches rises =
+    let parts = and_parts (nat_le least batch.time) (nat_lt batch.time limit && rise_between (batch.time + 1) limit batches) rises in
+    let rest = and_parts (nat_lt batch.time limit) (rise_between (batch.time + 1) limit batches) parts.1 in
+    record { least = leb-true least batch.time parts.0; below = ltb-true batch.time limit rest.0; behind = rest.1 }
+
+rises_with : (least limit : ℕ) (batch : Batch) (batches : List Batch) → least ≤ batch.time → batch.time < limit → rise_between (batch.time + 1) limit batches ≡ true → rise_between least limit (batch ∷ batches) ≡ true
+rises_with least limit batch batches from below behind =
+    and_from (nat_le least batch.time) (nat_lt batch.time limit && rise_between (batch.time + 1) limit batches) (le-leb least batch.time from)
+    (and_from (nat_lt batch.time limit) (rise_between (batch.time + 1) limit batches) (lt-ltb batch.time limit below) behind)
+
+-- nothing is due before the first time
+none_before : (least limit t : ℕ) (batches : List Batch) → rise_between least limit batches ≡ true → t < least → due_at t batches ≡ []
+none_before least limit t [] rises before = refl
+none_before least limit t (batch ∷ batches) rises before =
+    let first = first_of least limit batch batches rises in
+    let from = first.least in
+    rw (ne_eqb batch.time t (λ same. omega arith)) (none_before (batch.time + 1) limit t batches first.behind (omega arith))
+
+-- nor from the limit on
+pub none_from : (least limit t : ℕ) (batches : List Batch) → rise_between least limit batches ≡ true → limit ≤ t → due_at t batches ≡ []
+none_from least limit t [] rises past = refl
+none_from least limit t (batch ∷ batches) rises past =
+    let first = first_of least limit batch batches rises in
+    let below = first.below in
+    rw (ne_eqb batch.time t (λ same. omega arith)) (none_from (batch.time + 1) limit t batches first.behind past)
+
+-- ---- taking the first
+
+-- where the first isn't due, nothing is
+pub not_due : (t limit : ℕ) (batches : List Batch) → rise_between t limit batches ≡ true → is_due t batches ≡ false → due_at t batches ≡ []
+not_due t limit [] rises not = refl
+not_due t limit (batch ∷ batches) rises not =
+    let first = first_of t limit batch batches rises in
+    let from = first.least in
+    let other = eqb-false batch.time t not in
+    rw not (none_before (batch.time + 1) limit t batches first.behind (omega arith))
+
+pub not_due_rises : (t limit : ℕ) (batches : List Batch) → rise_between t limit batches ≡ true → is_due t batches ≡ false → rise_between (t + 1) limit batches ≡ true
+not_due_rises t limit [] rises not = refl
+not_due_rises t limit (batch ∷ batches) rises not =
+    let first = first_of t limit batch batches rises in
+    let from = first.least in
+    let other = eqb-false batch.time t not in
+    rises_with (t + 1) limit batch batches (omega arith) first.below first.behind
+
+-- ---- putting one behind them
+
+pub wider : (least limit more : ℕ) (batches : List Batch) → rise_between least limit batches ≡ true → limit ≤ more → rise_between least more batches ≡ true
+wider least limit more [] rises most = refl
+wider least limit more (batch ∷ batches) rises most =
+    let first = first_of least limit batch batches rises in
+    let below = first.below in
+    rises_with least more batch batches first.least (omega arith) (wider (batch.time + 1) limit more batches first.behind most)
+
+pub put_other : (t : ℕ) (last : Batch) (batches : List Batch) → t ≢ last.time → due_at t (batches ++ last ∷ []) ≡ due_at t batches
+put_other t last [] other = rw (ne_eqb last.time t (λ same. other (sym same))) refl
+put_other t last (batch ∷ batches) other =
+    elim (cases_eq batch.time t) [
+      | inl here ↦ rw (eq-eqb batch.time t here) refl
+      | inr not ↦ rw (ne_eqb batch.time t not) (put_other t last batches other)
+    ]
+
+pub put_last : (least : ℕ) (last : Batch) (batches : List Batch) → rise_between least last.time batches ≡ true → due_at last.time (batches ++ last ∷ []) ≡ last.deliveries.items
+put_last least last [] rises = rw (eq-eqb last.time last.time refl) refl
+put_last least last (batch ∷ batches) rises =
+    let first = first_of least last.time batch batches rises in
+    let below = first.below in
+    rw (ne_eqb batch.time last.time (λ same. omega arith)) (put_last (batch.time + 1) last batches first.behind)
+
+pub put_rises : (least : ℕ) (last : Batch) (batches : List Batch) → least ≤ last.time → rise_between least last.time batches ≡ true → rise_between least (last.time + 1) (batches ++ last ∷ []) ≡ true
+put_rises least last [] from rises = rises_with least (last.time + 1) last [] from (omega arith) refl
+put_rises least last (batch ∷ batches) from rises =
+    let first = first_of least last.time batch batches rises in
+    let below = first.below in
+    rises_with least (last.time + 1) batch (batches ++ last ∷ []) first.least (omega arith) (put_rises (batch.time + 1) last batches (omega arith) first.behind)
+
+pub empty_of : (xs : List Delivery) → length xs ≡ 0 → xs ≡ []
+empty_of [] none = refl
+empty_of (x ∷ xs) none = search (arith, rules)

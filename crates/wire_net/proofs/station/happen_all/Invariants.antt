@@ -1,0 +1,14 @@
+-- The events so far have happened.
+use Rattle.std.proofs.Common.{◌≡◌, take}
+use Rattle.board_model.specs.Showing.{world_of}
+use Rattle.board_model.specs.Ticks.{IsSameTick}
+use Rattle.aegis_tick.specs.Course.{occurrences, world_with}
+use Rattle.wire_net.proofs.station.happen_all.Given as goal
+
+abbrev pub invariant-loop-one : goal.invariant-loop-one
+invariant-loop-one l = record {
+  world : world_of l.board ≡ world_with (occurrences (take l.one-index l.events)) (world_of l.fn.board);
+  time : l.board.time ≡ l.fn.board.time;
+  whole : l.board.roster.spare ≡ l.fn.board.roster.spare;
+  numbers : l.board.claims.next ≡ l.fn.board.claims.next;
+}

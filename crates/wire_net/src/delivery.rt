@@ -1,0 +1,97 @@
+//! Packets that are under way.
+ghost use Rattle.std.specs.Prelude.{◌≡◌, ◌≤◌, ◌<◌, ◌+◌, ℕ, true, OnOk};
+ghost use Rattle.wire_model.specs.Wire.{is_for};
+ghost use Rattle.wire_net.specs.Delivery.{due_at, is_delivery_for, is_due, packet_in, rise_between};
+
+use aegis_limits::OutOfMemory;
+use external_event::{Event, Occurrence};
+use std::alloc::Global;
+use std::collections::VecDeque;
+
+/// The number by which a packet names all machines but its sender.
+const ALL_OTHERS: u8 = 255;
+
+/// A packet that arrives at its event's time at those machines for which it is.
+#[derive(Drop)]
+pub(crate) struct Delivery {
+    /// The number of the machine that sent it.
+    pub sender: u8,
+    /// Its arrival.
+    pub event: Event,
+}
+
+/// The deliveries of a time.
+#[derive(Drop)]
+pub(crate) struct Batch {
+    /// When they arrive.
+    pub time: u32,
+    /// In the order in which they arrive.
+    pub deliveries: Vec<Delivery>,
+}
+
+/// Whether a packet of one machine is for another.
+fn is_for(sender: u8, machine: u8, packet: &[u8]) -> bool
+    ensures { result ≡ is_for sender machine packet.now }
+{
+    match packet.get(5) {
+        Some(byte) => machine != sender && (*byte == machine || *byte == ALL_OTHERS),
+        None => false,
+    }
+}
+
+/// The bytes of a packet that arrives.
+fn packet_in(what: &Occurrence) -> &[u8]
+    ensures { result.now ≡ packet_in what.now }
+{
+    match what {
+        Occurrence::Packet(packet) => packet.bytes(),
+        _ => &[],
+    }
+}
+
+impl Delivery {
+    /// Whether it is for this machine.
+    pub fn is_for(&self, machine: u8) -> bool
+        ensures { result ≡ is_delivery_for machine self.now }
+    {
+        is_for(self.sender, machine, packet_in(&self.event.what))
+    }
+}
+
+/// Whether the first batch is due at a time.
+fn is_due(queue: &VecDeque<Batch>, time: u32) -> bool
+    ensures { result ≡ is_due time queue.now.items }
+{
+    match queue.front() {
+        Some(batch) => batch.time == time,
+        None => false,
+    }
+}
+
+/// Takes what is due at a time off the queue, in which nothing is of an earlier time.
+pub(crate) fn take_due(alloc: Global, queue: &mut VecDeque<Batch>, time: u32, limit: u32) -> Vec<Delivery>
+    requires { rise_between time limit queue.old.items ≡ true }
+    ensures due { result.items ≡ due_at time queue.old.items }
+    ensures rest { (t : ℕ) → time < t → due_at t queue.new.items ≡ due_at t queue.old.items }
+    ensures rise { rise_between (time + 1) limit queue.new.items ≡ true }
+{
+    if !is_due(queue, time) {
+        return Vec::new(alloc);
+    }
+    match queue.pop_front() {
+        Some(batch) => batch.deliveries,
+        None => Vec::new(alloc),
+    }
+}
+
+/// Puts deliveries of a time behind those of earlier times.
+pub(crate) fn put(queue: &mut VecDeque<Batch>, time: u32, deliveries: Vec<Delivery>) -> Result<(), OutOfMemory>
+    ensures last { (least : ℕ) → rise_between least time queue.old.items ≡ true → OnOk result (due_at time queue.new.items ≡ deliveries.items) }
+    ensures others { OnOk result ((t : ℕ) → t < time → due_at t queue.new.items ≡ due_at t queue.old.items) }
+    ensures rise { (least : ℕ) → least ≤ time → rise_between least time queue.old.items ≡ true → OnOk result (rise_between least (time + 1) queue.new.items ≡ true) }
+{
+    if !deliveries.is_empty() {
+        queue.push_back(Batch { time, deliveries })?;
+    }
+    Ok(())
+}
