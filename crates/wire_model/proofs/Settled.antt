@@ -61,10 +61,10 @@ frames_settled wire t known zeros less =
     (λ i. map (framed i) (sent_between (world_in wire (wired wire (suc t)) i t) (world_in wire (wired wire (suc t)) i (suc t))))
     wire.count
     (λ i within.
-        let now = worlds_settled wire i t known zeros within (omega arith) ∙ sym (worlds_settled wire i t (suc t) zeros within (omega arith)) in
-        let next = worlds_settled wire i (suc t) known zeros within (omega arith) in
-        ap (λ (w : World). map (framed i) (sent_between w (world_in wire (wired wire known) i (suc t)))) now
-        ∙ ap (λ (w : World). map (framed i) (sent_between (world_in wire (wired wire (suc t)) i t) w)) next)
+    let now = worlds_settled wire i t known zeros within (omega arith) ∙ sym (worlds_settled wire i t (suc t) zeros within (omega arith)) in
+    let next = worlds_settled wire i (suc t) known zeros within (omega arith) in
+    ap (λ (w : World). map (framed i) (sent_between w (world_in wire (wired wire known) i (suc t)))) now
+    ∙ ap (λ (w : World). map (framed i) (sent_between (world_in wire (wired wire (suc t)) i t) w)) next)
 
 -- a tick behind what happens in it
 then_ticks : (schedule : Schedule) (w : World) → run_phases w (next_phases schedule w) ≡ tick_step (run_phases w (map happen (schedule w.book.time)))

@@ -9,7 +9,8 @@ use Rattle.wire_model.specs.Wire.{Wire, after_tick, arrivals, put_on_wire, wired
 -- A world that begins at time 0 is at its tick's time as long as it isn't idle.
 abbrev pub TimeIsTick : Type 0
 TimeIsTick = (schedule : Schedule) (w : World) (t : ℕ) → w.book.time ≡ 0
-    → is_idle_book (world_after_ticks schedule w t).book ≡ false → (world_after_ticks schedule w t).book.time ≡ t
+    → is_idle_book (world_after_ticks schedule w t).book ≡ false
+    → (world_after_ticks schedule w t).book.time ≡ t
 
 -- Its run to a tick reads its schedule below that tick alone.
 abbrev pub ReadsBelow : Type 0
@@ -39,4 +40,4 @@ HappensOnWire = (wire : Wire) (i t known : ℕ) → t < known
 abbrev pub TicksOnWire : Type 0
 TicksOnWire = (wire : Wire) (i t : ℕ) → BeginAtZero wire → i < wire.count
     → world_on_wire wire i (suc t) ≡ after_tick ((wire.machines i).schedule t ++ arrivals wire (wired wire t) t i)
-      (world_on_wire wire i t)
+    (world_on_wire wire i t)

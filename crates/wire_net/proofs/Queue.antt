@@ -1,6 +1,6 @@
 -- A queue of batches whose times rise.
-use Rattle.std.proofs.Common.{arith, refl, sym, ◌∙◌, ap, ◌≡◌, ◌≢◌, ◌<◌, ◌≤◌, ◌+◌, ℕ, List, [], ◌∷◌, ◌++◌, inl, inr, length, rules, true, false}
-use Rattle.std.specs.Prelude.{◌==◌, ◌&&◌, nat_le, nat_lt}
+use Rattle.std.proofs.Common.{arith, refl, sym, ◌≡◌, ◌≢◌, ◌<◌, ◌≤◌, ◌+◌, ℕ, List, [], ◌∷◌, ◌++◌, inl, inr, length, rules, true, false}
+use Rattle.std.specs.Prelude.{◌&&◌, nat_le, nat_lt}
 use Rattle.std.proofs.lemmas.Bool.{and_from, and_parts, cases_eq, eq-eqb, eqb-false, le-leb, leb-true, lt-ltb, ltb-true, ne_eqb}
 use Rattle.wire_net.specs.declared.delivery.Batch.{Batch}
 use Rattle.wire_net.specs.declared.delivery.Delivery.{Delivery}

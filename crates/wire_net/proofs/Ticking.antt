@@ -1,6 +1,6 @@
 -- The machines make a tick one after another.
-use Rattle.std.proofs.Common.{◌≡◌, ◌≢◌, ℕ, suc, ◌+◌, ◌<◌, ◌≤◌, List, [], ◌∷◌, ◌++◌, map, length, get_or, set, refl, sym, ◌∙◌, ap, arith, inl, inr, append_assoc, subst, rules, drop}
-use Rattle.std.specs.Prelude.{filter, false}
+use Rattle.std.proofs.Common.{◌≡◌, ℕ, suc, ◌+◌, ◌<◌, ◌≤◌, List, [], ◌∷◌, ◌++◌, map, length, get_or, set, refl, sym, ◌∙◌, ap, arith, inl, inr, append_assoc, subst, drop}
+use Rattle.std.specs.Prelude.{filter}
 use Rattle.std.proofs.lemmas.Bool.{cases_eq, cases_lt, cond_both}
 use Rattle.std.proofs.lemmas.List.{get_or-set_other, get_or-set_same}
 use Rattle.external_event.specs.Packet.{is_packet}
@@ -72,11 +72,11 @@ out_more arrival boards now place board b old first out new within was before mo
     let next : suc place ≡ place + 1 = omega arith in
     let late = sends arrival boards (set now place board) b in
     let here : deliveries_of place arrival (sent_between (world_of old) (world_of board)) ≡ late place =
-        ap (λ (x : Shown). deliveries_of place arrival (sent_between (world_of x) (world_of board))) was
-        ∙ ap (λ (x : Shown). deliveries_of place arrival (sent_between (world_of (get_or boards place b)) (world_of x))) (sym (get_or-set_same now place board b within)) in
+    ap (λ (x : Shown). deliveries_of place arrival (sent_between (world_of x) (world_of board))) was
+    ∙ ap (λ (x : Shown). deliveries_of place arrival (sent_between (world_of (get_or boards place b)) (world_of x))) (sym (get_or-set_same now place board b within)) in
     let same : joined (sends arrival boards now b) place ≡ joined late place =
-        joined_alike (sends arrival boards now b) late place
-        (λ i less. ap (λ (x : Shown). deliveries_of i arrival (sent_between (world_of (get_or boards i b)) (world_of x))) (sym (get_or-set_other now place i board b (λ same. omega arith)))) in
+    joined_alike (sends arrival boards now b) late place
+    (λ i less. ap (λ (x : Shown). deliveries_of i arrival (sent_between (world_of (get_or boards i b)) (world_of x))) (sym (get_or-set_other now place i board b (λ same. omega arith)))) in
     more
     ∙ ap (λ (xs : List Delivery). xs ++ deliveries_of place arrival (sent_between (world_of old) (world_of board))) before
     ∙ append_assoc first (joined (sends arrival boards now b) place) (deliveries_of place arrival (sent_between (world_of old) (world_of board)))

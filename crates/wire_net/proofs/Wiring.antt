@@ -20,7 +20,7 @@ use Rattle.wire_net.specs.declared.delivery.Delivery.{Delivery}
 use Rattle.wire_net.specs.declared.net.Station.{Station}
 use Rattle.wire_net.specs.Course.{AllShow, CameSoFar, IsWireOf}
 use Rattle.wire_net.specs.Delivery.{arriving, delivered_at, deliveries_of, is_delivery_for}
-use Rattle.wire_net.specs.Station.{Happened, Partly, happening}
+use Rattle.wire_net.specs.Station.{Happened, happening}
 use Rattle.wire_net.proofs.Coming.{IsComing, coming_now}
 
 -- ---- frames
@@ -105,13 +105,13 @@ module _ (boards : List Shown) (schedules : List (Vec EventValue Global)) (delay
       (λ i. map (delivered_at (t + delay)) (map (framed i) (sent_between (world_in net (wired net (suc t)) i t) (world_in net (wired net (suc t)) i (suc t)))))
       (length boards)
       (λ i within.
-          let inside : i < net.count = subst (λ (n : ℕ). i < n) (sym is.count) within in
-          let now = before i b (omega arith) ∙ sym (settled net i t (suc t) zeros inside (omega arith)) in
-          let one : t + 1 ≡ suc t = omega arith in
-          let next : world_of (get_or new i b) ≡ world_on_wire net i (suc t) = after i b (omega arith) ∙ ap (world_on_wire net i) one in
-          framed_deliveries i (t + delay) (sent_between (world_of (get_or old i b)) (world_of (get_or new i b)))
-          ∙ ap (λ (w : World). map (delivered_at (t + delay)) (map (framed i) (sent_between w (world_of (get_or new i b))))) now
-          ∙ ap (λ (w : World). map (delivered_at (t + delay)) (map (framed i) (sent_between (world_in net (wired net (suc t)) i t) w))) next)
+      let inside : i < net.count = subst (λ (n : ℕ). i < n) (sym is.count) within in
+      let now = before i b (omega arith) ∙ sym (settled net i t (suc t) zeros inside (omega arith)) in
+      let one : t + 1 ≡ suc t = omega arith in
+      let next : world_of (get_or new i b) ≡ world_on_wire net i (suc t) = after i b (omega arith) ∙ ap (world_on_wire net i) one in
+      framed_deliveries i (t + delay) (sent_between (world_of (get_or old i b)) (world_of (get_or new i b)))
+      ∙ ap (λ (w : World). map (delivered_at (t + delay)) (map (framed i) (sent_between w (world_of (get_or new i b))))) now
+      ∙ ap (λ (w : World). map (delivered_at (t + delay)) (map (framed i) (sent_between (world_in net (wired net (suc t)) i t) w))) next)
       ∙ sym (map_joined (delivered_at (t + delay)) (λ i. map (framed i) (sent_between (world_in net (wired net (suc t)) i t) (world_in net (wired net (suc t)) i (suc t)))) (length boards))
       ∙ ap (λ (n : ℕ). map (delivered_at (t + delay)) (joined (λ i. map (framed i) (sent_between (world_in net (wired net (suc t)) i t) (world_in net (wired net (suc t)) i (suc t)))) n)) (sym is.count)
       ∙ sym (coming_later net t delay is.delay)

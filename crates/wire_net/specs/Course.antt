@@ -1,12 +1,9 @@
 -- How far the machines on a wire came.
-use Rattle.std.specs.Prelude.{ℕ, ◌≡◌, ◌≤◌, ◌<◌, ◌+◌, List, [], ◌++◌, Vec, true, false, length, take, get_or, if◌then◌else◌}
+use Rattle.std.specs.Prelude.{ℕ, ◌≡◌, ◌≤◌, ◌<◌, List, Vec, false, length, take, get_or}
 use Rattle.std.specs.Global.{Global}
-use Rattle.std.specs.List.{take_while}
-use Rattle.external_event.specs.declared.event.Occurrence.{Occurrence}
 use Rattle.external_event.specs.EventValue.{EventValue}
 use Rattle.world_model.specs.Book.{is_idle_book}
 use Rattle.world_model.specs.Event.{Schedule, schedule_of}
-use Rattle.world_model.specs.Tick.{tick_step}
 use Rattle.world_model.specs.World.{World}
 use Rattle.board_model.specs.Shown.{Shown}
 use Rattle.board_model.specs.Showing.{world_of}
@@ -15,12 +12,13 @@ use Rattle.aegis_tick.specs.Course.{world_with}
 use Rattle.wire_model.specs.Wire.{Wire, wired, world_on_wire}
 
 -- the wire of these boards, with these schedules
-pub record IsWireOf (boards : List Shown) (events : List (Vec EventValue Global)) (ticks : ℕ) (wire : Wire) : Type 0 where
-  pub count : wire.count ≡ length boards
-  pub delay : wire.delay ≡ ticks
-  pub starts : (i : ℕ) (b : Shown) → i < length boards → (wire.machines i).start ≡ world_of (get_or boards i b)
-  pub schedules : (i : ℕ) (v : Vec EventValue Global) → i < length boards
-      → (wire.machines i).schedule ≡ schedule_of (get_or events i v).items
+pub record IsWireOf (boards : List Shown) (events : List (Vec EventValue Global)) (ticks : ℕ) (wire : Wire) : Type 0
+  where
+    pub count : wire.count ≡ length boards
+    pub delay : wire.delay ≡ ticks
+    pub starts : (i : ℕ) (b : Shown) → i < length boards → (wire.machines i).start ≡ world_of (get_or boards i b)
+    pub schedules : (i : ℕ) (v : Vec EventValue Global) → i < length boards
+        → (wire.machines i).schedule ≡ schedule_of (get_or events i v).items
 
 -- A machine came so far: it made so many ticks, at most those that were asked for, and unless it is idle so many events
 -- of the next happened.
@@ -34,7 +32,8 @@ pub record CameSoFar (schedule : Schedule) (w : World) (ticks : ℕ) (v : World)
 
 -- each board shows its machine's world after so many ticks
 abbrev pub AllShow : Wire → ℕ → List Shown → Type 0
-AllShow net ticks boards = (i : ℕ) (b : Shown) → i < length boards → world_of (get_or boards i b) ≡ world_on_wire net i ticks
+AllShow net ticks boards = (i : ℕ) (b : Shown) → i < length boards
+    → world_of (get_or boards i b) ≡ world_on_wire net i ticks
 
 -- each machine came so far on its way to so many ticks
 abbrev pub AllCameSoFar : Wire → ℕ → List Shown → Type 0

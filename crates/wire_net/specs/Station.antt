@@ -1,5 +1,5 @@
 -- A tick of one machine on a wire.
-use Rattle.std.specs.Prelude.{ℕ, ◌≡◌, ◌≤◌, ◌<◌, ◌+◌, ◌⊎◌, List, [], ◌++◌, false, ◌==◌, drop, length, get_or}
+use Rattle.std.specs.Prelude.{ℕ, ◌≡◌, ◌≤◌, ◌<◌, ◌+◌, ◌⊎◌, List, ◌++◌, false, ◌==◌, drop, length, get_or}
 use Rattle.std.specs.List.{take_while}
 use Rattle.external_event.specs.declared.event.Occurrence.{Occurrence}
 use Rattle.external_event.specs.EventValue.{EventValue}
@@ -33,16 +33,18 @@ abbrev pub happening : ℕ → ℕ → List Delivery → List EventValue → Lis
 happening machine time due coming = occurrences (scheduled time coming) ++ arriving machine due
 
 -- A machine made a tick: its board, and what is still to come for it.
-pub record Ticked (machine time : ℕ) (due : List Delivery) (b : Shown) (s : Station) (c : Shown) (r : Station) : Type 0 where
-  pub world : world_of c ≡ after_tick (happening machine time due s.coming.now) (world_of b)
-  pub coming : r.coming.now ≡ drop (length (scheduled time s.coming.now)) s.coming.now
-  pub sent : AreCounted c r.sent.items
-  pub between : IsBetween (time + 1) c
+pub record Ticked (machine time : ℕ) (due : List Delivery) (b : Shown) (s : Station) (c : Shown) (r : Station) : Type 0
+  where
+    pub world : world_of c ≡ after_tick (happening machine time due s.coming.now) (world_of b)
+    pub coming : r.coming.now ≡ drop (length (scheduled time s.coming.now)) s.coming.now
+    pub sent : AreCounted c r.sent.items
+    pub between : IsBetween (time + 1) c
 
 -- Some first events of a tick happened in a machine that isn't idle, or the tick was made.
 abbrev pub Partly : ℕ → ℕ → List Delivery → Shown → Station → Shown → Type 0
 Partly machine time due b s c =
-    (is_idle_book (world_of b).book ≡ false) × HappenedInPart (happening machine time due s.coming.now) (world_of b) (world_of c) ⊎
+    (is_idle_book (world_of b).book ≡ false) ×
+    HappenedInPart (happening machine time due s.coming.now) (world_of b) (world_of c) ⊎
     (world_of c ≡ after_tick (happening machine time due s.coming.now) (world_of b))
 
 -- So it did, or nothing happened.

@@ -7,9 +7,7 @@ use aegis_limits::OutOfMemory;
 use external_event::{Event, Occurrence};
 use std::alloc::Global;
 use std::collections::VecDeque;
-
-/// The number by which a packet names all machines but its sender.
-const ALL_OTHERS: u8 = 255;
+use wire_model::ALL_OTHERS;
 
 /// A packet that arrives at its event's time at those machines for which it is.
 #[derive(Drop)]
@@ -69,7 +67,12 @@ fn is_due(queue: &VecDeque<Batch>, time: u32) -> bool
 }
 
 /// Takes what is due at a time off the queue, in which nothing is of an earlier time.
-pub(crate) fn take_due(alloc: Global, queue: &mut VecDeque<Batch>, time: u32, limit: u32) -> Vec<Delivery>
+pub(crate) fn take_due(
+    alloc: Global,
+    queue: &mut VecDeque<Batch>,
+    time: u32,
+    limit: u32,
+) -> Vec<Delivery>
     requires { rise_between time limit queue.old.items ≡ true }
     ensures due { result.items ≡ due_at time queue.old.items }
     ensures rest { (t : ℕ) → time < t → due_at t queue.new.items ≡ due_at t queue.old.items }
@@ -85,7 +88,11 @@ pub(crate) fn take_due(alloc: Global, queue: &mut VecDeque<Batch>, time: u32, li
 }
 
 /// Puts deliveries of a time behind those of earlier times.
-pub(crate) fn put(queue: &mut VecDeque<Batch>, time: u32, deliveries: Vec<Delivery>) -> Result<(), OutOfMemory>
+pub(crate) fn put(
+    queue: &mut VecDeque<Batch>,
+    time: u32,
+    deliveries: Vec<Delivery>,
+) -> Result<(), OutOfMemory>
     ensures last { (least : ℕ) → rise_between least time queue.old.items ≡ true → OnOk result (due_at time queue.new.items ≡ deliveries.items) }
     ensures others { OnOk result ((t : ℕ) → t < time → due_at t queue.new.items ≡ due_at t queue.old.items) }
     ensures rise { (least : ℕ) → least ≤ time → rise_between least time queue.old.items ≡ true → OnOk result (rise_between least (time + 1) queue.new.items ≡ true) }

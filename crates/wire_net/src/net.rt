@@ -52,7 +52,11 @@ fn sent_counts(alloc: Global, board: &Board) -> Result<Vec<usize>, OutOfMemory>
 }
 
 /// The stations of these boards, with these schedules.
-fn stations_of<'a>(alloc: Global, boards: &[Board], schedules: &'a [Vec<Event>]) -> Result<Vec<Station<'a>>, OutOfMemory>
+fn stations_of<'a>(
+    alloc: Global,
+    boards: &[Board],
+    schedules: &'a [Vec<Event>],
+) -> Result<Vec<Station<'a>>, OutOfMemory>
     requires { length schedules.now ≡ length boards.now }
     ensures count { IfOk result (λ stations. length stations.items ≡ length boards.now) }
     ensures coming { IfOk result (λ stations. (i : ℕ) (s : Station) (v : Vec EventValue Global) → i < length boards.now → (get_or stations.items i s).coming.now ≡ (get_or schedules.now i v).items) }
@@ -122,15 +126,7 @@ fn tick_all(
     for place in 0..boards.len() {
         let board = &mut boards[place];
         let station = &mut stations[place];
-        tick_one(
-            alloc,
-            board,
-            station,
-            due_now,
-            place as u8,
-            moment,
-            out,
-        )?;
+        tick_one(alloc, board, station, due_now, place as u8, moment, out)?;
     }
     Ok(())
 }
@@ -167,7 +163,14 @@ pub fn wire(
         let arrival = time + delay;
         let due_now = take_due(alloc, &mut under_way, time, arrival);
         let mut out = Vec::new(alloc);
-        tick_all(alloc, boards, &mut stations, &due_now, Moment { time, arrival }, &mut out)?;
+        tick_all(
+            alloc,
+            boards,
+            &mut stations,
+            &due_now,
+            Moment { time, arrival },
+            &mut out,
+        )?;
         put(&mut under_way, arrival, out)?;
     }
     Ok(())

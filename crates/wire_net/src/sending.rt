@@ -23,7 +23,12 @@ pub(crate) struct Route {
 }
 
 /// Sends a packet of these bytes, if they are one.
-fn send(alloc: Global, out: &mut Vec<Delivery>, route: Route, bytes: &[u8]) -> Result<(), OutOfMemory>
+fn send(
+    alloc: Global,
+    out: &mut Vec<Delivery>,
+    route: Route,
+    bytes: &[u8],
+) -> Result<(), OutOfMemory>
     requires { route.time ≤ most_ticks }
     ensures { OnOk result (out.new.items ≡ out.old.items ++ deliveries_of route.sender route.time (filter is_packet (bytes.now ∷ []))) }
 {
@@ -54,7 +59,14 @@ fn packet_at(board: &Board, env: u8, place: usize) -> &[u8]
 }
 
 /// Sends what an environment sent behind the first packets, so many.
-fn send_behind(alloc: Global, out: &mut Vec<Delivery>, route: Route, board: &Board, env: u8, known: usize) -> Result<(), OutOfMemory>
+fn send_behind(
+    alloc: Global,
+    out: &mut Vec<Delivery>,
+    route: Route,
+    board: &Board,
+    env: u8,
+    known: usize,
+) -> Result<(), OutOfMemory>
     requires time { route.time ≤ most_ticks }
     requires env { env < (world_of board.now).count }
     ensures { OnOk result (out.new.items ≡ out.old.items ++ deliveries_of route.sender route.time (filter is_packet (drop known ((world_of board.now).solos env).sent))) }
@@ -66,7 +78,13 @@ fn send_behind(alloc: Global, out: &mut Vec<Delivery>, route: Route, board: &Boa
 }
 
 /// Sends what environments sent that isn't on the wire yet, by their numbers, and counts it.
-pub(crate) fn send_new(alloc: Global, out: &mut Vec<Delivery>, route: Route, board: &Board, known: &mut [usize]) -> Result<(), OutOfMemory>
+pub(crate) fn send_new(
+    alloc: Global,
+    out: &mut Vec<Delivery>,
+    route: Route,
+    board: &Board,
+    known: &mut [usize],
+) -> Result<(), OutOfMemory>
     requires time { route.time ≤ most_ticks }
     requires envs { length known.old ≡ (world_of board.now).count }
     ensures sent { OnOk result (out.new.items ≡ out.old.items ++ deliveries_of route.sender route.time (filter is_packet (joined (λ e. drop (get_or known.old e 0) ((world_of board.now).solos e).sent) (world_of board.now).count))) }

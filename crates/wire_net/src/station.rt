@@ -74,7 +74,12 @@ fn arrive_all(board: &mut Board, due: &[Delivery], machine: u8) -> Result<(), Ou
 }
 
 /// One tick of a machine: these events of its schedule, then what arrives, and then the rest of the tick.
-fn tick_with(board: &mut Board, events: &[Event], due: &[Delivery], machine: u8) -> Result<(), OutOfMemory>
+fn tick_with(
+    board: &mut Board,
+    events: &[Event],
+    due: &[Delivery],
+    machine: u8,
+) -> Result<(), OutOfMemory>
     requires may { MayTick board.old }
     ensures world { OnOk result (world_of board.new ≡ tick_step (world_with (occurrences events.now ++ arriving machine due.now) (world_of board.old))) }
     ensures part { OnErr result (HappenedInPart (occurrences events.now ++ arriving machine due.now) (world_of board.old) (world_of board.new)) }
@@ -88,7 +93,13 @@ fn tick_with(board: &mut Board, events: &[Event], due: &[Delivery], machine: u8)
 }
 
 /// One tick of a machine, if it isn't idle.
-pub(crate) fn advance(board: &mut Board, events: &[Event], due: &[Delivery], machine: u8, time: u32) -> Result<(), OutOfMemory>
+pub(crate) fn advance(
+    board: &mut Board,
+    events: &[Event],
+    due: &[Delivery],
+    machine: u8,
+    time: u32,
+) -> Result<(), OutOfMemory>
     requires limit { time < most_ticks }
     requires between { IsBetween time board.old }
     ensures world { OnOk result (world_of board.new ≡ after_tick (occurrences events.now ++ arriving machine due.now) (world_of board.old)) }

@@ -1,5 +1,5 @@
 -- A batch of a later time stands last.
-use Rattle.std.proofs.Common.{◌≡◌, ◌∙◌, ap, ◌+◌, subst, sym, arith, length, List, true}
+use Rattle.std.proofs.Common.{◌∙◌, ap, ◌+◌, sym, arith}
 use Rattle.std.specs.Prelude.{vec_len}
 use Rattle.std.proofs.lemmas.Bool.{eqb-true}
 use Rattle.wire_net.specs.Delivery.{due_at, rise_between}

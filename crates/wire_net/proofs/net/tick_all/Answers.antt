@@ -1,10 +1,8 @@
 -- Each turn of the loop is a machine more.
-use Rattle.std.proofs.Common.{◌∙◌, ◌≡◌, ap, sym, subst, ◌++◌, ◌<◌, ℕ, List, arith, length, length-set, get_or, set}
+use Rattle.std.proofs.Common.{◌∙◌, ◌≡◌, ap, subst, ◌++◌, ◌<◌, ℕ, arith, length, length-set, get_or}
 use Rattle.std.proofs.lemmas.List.{get_or_default}
 use Rattle.board_model.specs.Shown.{Shown}
-use Rattle.board_model.specs.Showing.{world_of}
 use Rattle.wire_model.specs.Wire.{joined}
-use Rattle.wire_net.specs.declared.delivery.Delivery.{Delivery}
 use Rattle.wire_net.specs.declared.net.Station.{Station}
 use Rattle.wire_net.specs.Station.{Partly, Ticked}
 use Rattle.wire_net.proofs.Happening.{on_err}
@@ -22,15 +20,15 @@ returns-in_err-tick_one-clause-part c =
     let old = get_or c.loop-place.boards place c.index-boards-place.result in
     let before = get_or c.loop-place.stations place c.index-stations-place.result in
     let was : (b : Shown) → old ≡ get_or c.args.boards.now place b =
-        λ b. get_or_default c.loop-place.boards place c.index-boards-place.result b within ∙ loop.left place b (omega arith) in
+    λ b. get_or_default c.loop-place.boards place c.index-boards-place.result b within ∙ loop.left place b (omega arith) in
     let stood : (s : Station) → before ≡ get_or c.args.stations.now place s =
-        λ s. get_or_default c.loop-place.stations place c.index-stations-place.result s inside ∙ loop.left_stations place s (omega arith) in
+    λ s. get_or_default c.loop-place.stations place c.index-stations-place.result s inside ∙ loop.left_stations place s (omega arith) in
     on_err c.from_residual.result (λ i b s less.
-        refused_each t due c.args.boards.now c.loop-place.boards c.args.stations.now c.loop-place.stations place c.tick_one.new.board within loop.done loop.left
-        (λ b s.
-            subst (λ (x : Shown). Partly place t due x (get_or c.args.stations.now place s) c.tick_one.new.board) (was b)
-            (subst (λ (x : Station). Partly place t due old x c.tick_one.new.board) (stood s) c.in_err-tick_one.ensures.part))
-        i b s)
+    refused_each t due c.args.boards.now c.loop-place.boards c.args.stations.now c.loop-place.stations place c.tick_one.new.board within loop.done loop.left
+    (λ b s.
+    subst (λ (x : Shown). Partly place t due x (get_or c.args.stations.now place s) c.tick_one.new.board) (was b)
+    (subst (λ (x : Station). Partly place t due old x c.tick_one.new.board) (stood s) c.in_err-tick_one.ensures.part))
+    i b s)
 
 pub loop-place-preserved : goal.loop-place-preserved
 loop-place-preserved c =
@@ -45,16 +43,16 @@ loop-place-preserved c =
     let old = get_or c.loop-place.boards place c.index-boards-place.result in
     let before = get_or c.loop-place.stations place c.index-stations-place.result in
     let was : (b : Shown) → old ≡ get_or c.args.boards.now place b =
-        λ b. get_or_default c.loop-place.boards place c.index-boards-place.result b within ∙ loop.left place b (omega arith) in
+    λ b. get_or_default c.loop-place.boards place c.index-boards-place.result b within ∙ loop.left place b (omega arith) in
     let stood : (s : Station) → before ≡ get_or c.args.stations.now place s =
-        λ s. get_or_default c.loop-place.stations place c.index-stations-place.result s inside ∙ loop.left_stations place s (omega arith) in
+    λ s. get_or_default c.loop-place.stations place c.index-stations-place.result s inside ∙ loop.left_stations place s (omega arith) in
     record {
       count = length-set c.loop-place.boards place board ∙ loop.count;
       stations = length-set c.loop-place.stations place station ∙ loop.stations;
       done = done_more (λ (i : ℕ) (b : Shown) (s : Station) (v : Shown) (r : Station). Ticked i t due b s v r) c.args.boards.now c.loop-place.boards c.args.stations.now c.loop-place.stations place board station within inside loop.done
           (λ b s.
-              subst (λ (x : Shown). Ticked place t due x (get_or c.args.stations.now place s) board station) (was b)
-              (subst (λ (x : Station). Ticked place t due old x board station) (stood s) c.in_ok-tick_one.ensures.ticked));
+          subst (λ (x : Shown). Ticked place t due x (get_or c.args.stations.now place s) board station) (was b)
+          (subst (λ (x : Station). Ticked place t due old x board station) (stood s) c.in_ok-tick_one.ensures.ticked));
       left = left_more c.args.boards.now c.loop-place.boards place board loop.left;
       left_stations = left_more c.args.stations.now c.loop-place.stations place station loop.left_stations;
       out = λ b. out_more c.args.moment.arrival c.args.boards.now c.loop-place.boards place board b old c.args.out.now.items c.loop-place.out.items c.tick_one.new.out.items within (was b) (loop.out b) c.in_ok-tick_one.ensures.out;

@@ -1,12 +1,10 @@
 -- Each turn of the loop is a tick of all machines.
-use Rattle.std.proofs.Common.{◌∙◌, ◌≡◌, ap, sym, subst, ◌+◌, ◌<◌, ◌≤◌, ◌++◌, ℕ, List, arith, length, get_or, true}
+use Rattle.std.proofs.Common.{◌∙◌, ◌≡◌, ap, sym, subst, ◌+◌, ◌<◌, ◌++◌, ℕ, List, arith, length, get_or}
 use Rattle.std.specs.Prelude.{Vec}
 use Rattle.std.specs.Global.{Global}
 use Rattle.std.proofs.lemmas.List.{with_items_is}
 use Rattle.external_event.specs.EventValue.{EventValue}
-use Rattle.board_model.specs.Shown.{Shown}
-use Rattle.wire_model.specs.Wire.{Wire, joined}
-use Rattle.wire_net.specs.Course.{IsWireOf}
+use Rattle.wire_model.specs.Wire.{joined}
 use Rattle.wire_net.specs.Delivery.{rise_between}
 use Rattle.wire_net.specs.Station.{AreCounted}
 use Rattle.wire_net.specs.declared.delivery.Delivery.{Delivery}
@@ -35,12 +33,12 @@ returns-in_err-tick_all-clause-part c =
     let lined = c.deref_mut.ensures.value in
     let manned = ap length lined ∙ loop.stations in
     let coming : (i : ℕ) (s : Station) (v : Vec EventValue Global) → i < length first → IsComing t (get_or events i v).items (get_or line i s).coming.now =
-        λ i s v within. subst (λ (xs : List Station). IsComing t (get_or events i v).items (get_or xs i s).coming.now) (sym lined) (loop.coming i s v within) in
+    λ i s v within. subst (λ (xs : List Station). IsComing t (get_or events i v).items (get_or xs i s).coming.now) (sym lined) (loop.coming i s v within) in
     on_err c.from_residual-in_err-tick_all.result
     (λ net is.
-        all_came_when laws first events c.args.delay net is c.requires.schedules c.requires.fresh c.requires.delay_least
-        t c.loop-time.boards line c.loop-time.under_way.items c.deref.result.now loop.count manned coming (loop.shown net is) (loop.due net is) (c.deref.ensures.value ∙ c.take_due-due_now.ensures.due)
-        c.args.ticks c.tick_all.new.boards c.loop-time-test.true (c.tick_all.ensures.count ∙ loop.count) c.in_err-tick_all.ensures.part)
+    all_came_when laws first events c.args.delay net is c.requires.schedules c.requires.fresh c.requires.delay_least
+    t c.loop-time.boards line c.loop-time.under_way.items c.deref.result.now loop.count manned coming (loop.shown net is) (loop.due net is) (c.deref.ensures.value ∙ c.take_due-due_now.ensures.due)
+    c.args.ticks c.tick_all.new.boards c.loop-time-test.true (c.tick_all.ensures.count ∙ loop.count) c.in_err-tick_all.ensures.part)
 
 pub returns-in_err-put-clause-part : goal.returns-in_err-put-clause-part
 returns-in_err-put-clause-part c =
@@ -54,13 +52,13 @@ returns-in_err-put-clause-part c =
     let manned = ap length lined ∙ loop.stations in
     let same = c.tick_all.ensures.count ∙ loop.count in
     let coming : (i : ℕ) (s : Station) (v : Vec EventValue Global) → i < length first → IsComing t (get_or events i v).items (get_or line i s).coming.now =
-        λ i s v within. subst (λ (xs : List Station). IsComing t (get_or events i v).items (get_or xs i s).coming.now) (sym lined) (loop.coming i s v within) in
+    λ i s v within. subst (λ (xs : List Station). IsComing t (get_or events i v).items (get_or xs i s).coming.now) (sym lined) (loop.coming i s v within) in
     on_err c.from_residual-in_err-put.result
     (λ net is.
-        all_came_to laws first events c.args.delay net is c.requires.schedules c.requires.fresh c.requires.delay_least (t + 1) c.args.ticks c.tick_all.new.boards same (omega (arith, c.loop-time-test.true))
-        (all_next laws first events c.args.delay net is c.requires.schedules c.requires.fresh c.requires.delay_least
-        t c.loop-time.boards line c.loop-time.under_way.items c.deref.result.now loop.count manned coming (loop.shown net is) (loop.due net is) (c.deref.ensures.value ∙ c.take_due-due_now.ensures.due)
-        c.tick_all.new.boards c.tick_all.new.stations same c.in_ok-tick_all.ensures.ticked))
+    all_came_to laws first events c.args.delay net is c.requires.schedules c.requires.fresh c.requires.delay_least (t + 1) c.args.ticks c.tick_all.new.boards same (omega (arith, c.loop-time-test.true))
+    (all_next laws first events c.args.delay net is c.requires.schedules c.requires.fresh c.requires.delay_least
+    t c.loop-time.boards line c.loop-time.under_way.items c.deref.result.now loop.count manned coming (loop.shown net is) (loop.due net is) (c.deref.ensures.value ∙ c.take_due-due_now.ensures.due)
+    c.tick_all.new.boards c.tick_all.new.stations same c.in_ok-tick_all.ensures.ticked))
 
 pub loop-time-preserved : goal.loop-time-preserved
 loop-time-preserved c =
@@ -82,7 +80,7 @@ loop-time-preserved c =
     let taken = c.deref.ensures.value ∙ c.take_due-due_now.ensures.due in
     let later : t + 1 + delay ≡ t + delay + 1 = omega arith in
     let coming : (i : ℕ) (s : Station) (v : Vec EventValue Global) → i < length first → IsComing t (get_or events i v).items (get_or line i s).coming.now =
-        λ i s v within. subst (λ (xs : List Station). IsComing t (get_or events i v).items (get_or xs i s).coming.now) (sym lined) (loop.coming i s v within) in
+    λ i s v within. subst (λ (xs : List Station). IsComing t (get_or events i v).items (get_or xs i s).coming.now) (sym lined) (loop.coming i s v within) in
     record {
       count = same;
       stations = ap length behind ∙ c.tick_all.ensures.stations ∙ manned;

@@ -1,5 +1,5 @@
 -- Each turn of the loop is one environment more.
-use Rattle.std.proofs.Common.{◌∙◌, ◌≡◌, ap, ◌++◌, List, ℕ, arith, drop, get_or, length, length-set, ◌<◌}
+use Rattle.std.proofs.Common.{◌∙◌, ◌≡◌, ap, ◌++◌, ℕ, arith, drop, get_or, length, length-set, ◌<◌}
 use Rattle.std.specs.Prelude.{filter}
 use Rattle.external_event.specs.Packet.{is_packet}
 use Rattle.board_model.specs.Showing.{world_of}
@@ -16,7 +16,7 @@ loop-env-preserved c =
     let at : c.from-place.result ≡ n = c.from-place.ensures in
     let within : n < length c.loop-env.known = omega (arith, c.loop-env-test.true, c.envs-env-end.ensures, c.requires.envs, c.loop-env.invariant.envs) in
     let known : get_or c.loop-env.known c.from-place.result 0 ≡ get_or c.args.known.now n 0 =
-        ap (λ (k : ℕ). get_or c.loop-env.known k 0) at ∙ c.loop-env.invariant.left n (omega arith) in
+    ap (λ (k : ℕ). get_or c.loop-env.known k 0) at ∙ c.loop-env.invariant.left n (omega arith) in
     record {
       sent = env_sent sender time f n c.args.out.now.items c.loop-env.out.items c.send_behind.new.out.items c.loop-env.invariant.sent
           (c.in_ok-send_behind.ensures

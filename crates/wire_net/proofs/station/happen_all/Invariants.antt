@@ -1,7 +1,6 @@
 -- The events so far have happened.
 use Rattle.std.proofs.Common.{◌≡◌, take}
 use Rattle.board_model.specs.Showing.{world_of}
-use Rattle.board_model.specs.Ticks.{IsSameTick}
 use Rattle.aegis_tick.specs.Course.{occurrences, world_with}
 use Rattle.wire_net.proofs.station.happen_all.Given as goal
 
