@@ -1,0 +1,5 @@
+pub mod Faults
+pub mod Loading
+pub mod Run
+pub mod Text
+pub mod Tick
