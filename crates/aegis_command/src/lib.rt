@@ -8,6 +8,7 @@
 mod audit_ledger;
 mod load_seed;
 mod quantum;
+mod run_bare;
 mod run_image;
 mod ticks;
 mod top;

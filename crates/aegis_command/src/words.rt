@@ -9,6 +9,7 @@ ghost use Rattle.aegis_command.specs.Words.{asked_by, command_seen};
 
 use crate::audit_ledger::AuditLedger;
 use crate::load_seed::LoadSeed;
+use crate::run_bare::RunBare;
 use crate::run_image::RunImage;
 use crate::trace_env::TraceEnv;
 use commands::{Answer, Asm, ListElf, MakeImage, Stop, perform};
@@ -32,6 +33,8 @@ pub enum Words<'a> {
     AuditLedger(AuditLedger<'a>),
     /// `trace IMAGE SCHEDULE TICKS ENV`.
     TraceEnv(TraceEnv<'a>),
+    /// `bare FILE TICKS PERIOD`.
+    RunBare(RunBare<'a>),
 }
 
 /// The one word that there is.
@@ -76,6 +79,9 @@ pub fn parse(words: &[String]) -> Option<Words<'_>>
     if word == "trace" {
         return Some(Words::TraceEnv(TraceEnv::parse(rest)?));
     }
+    if word == "bare" {
+        return Some(Words::RunBare(RunBare::parse(rest)?));
+    }
     None
 }
 
@@ -98,5 +104,6 @@ pub fn perform_words<S: Shelf>(
         Words::LoadSeed(command) => perform(alloc, &command, shelf),
         Words::AuditLedger(command) => perform(alloc, &command, shelf),
         Words::TraceEnv(command) => perform(alloc, &command, shelf),
+        Words::RunBare(command) => perform(alloc, &command, shelf),
     }
 }
