@@ -1,8 +1,8 @@
-pub mod Reaching
+mod Reaching
 mod Viewing
 mod Raising
-pub mod Finding
-pub mod Missing
+mod Finding
+mod Missing
 pub mod Running
 pub mod Refilling
 pub mod Ending

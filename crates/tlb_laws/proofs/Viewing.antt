@@ -32,11 +32,6 @@ error_plain kind.Fetch = refl
 error_plain kind.Load = refl
 error_plain kind.Store = refl
 
-pub miss_served : (k : AccessKind) → machine.miss k ≡ flat.miss (purpose_of k)
-miss_served kind.Fetch = refl
-miss_served kind.Load = refl
-miss_served kind.Store = refl
-
 -- a user's address, or none
 pub below_end : (address : ℕ) → nat_lt address machine.user_end ≡ true → nat_le machine.user_end address ≡ false
 below_end address h = grind arith

@@ -38,8 +38,8 @@ abbrev pub names : Option ℕ → ℕ → Bool
 names None machine = false
 names (Some byte) machine = byte == machine || byte == all_others
 
-abbrev pub is_for : ℕ → ℕ → List ℕ → Bool
-is_for sender machine packet = not (machine == sender) && names (slice_get packet 5) machine
+abbrev pub comes_to : ℕ → ℕ → List ℕ → Bool
+comes_to sender machine packet = not (machine == sender) && names (slice_get packet 5) machine
 
 -- the packets by which what each environment sent is longer in a later world, by number of environment
 abbrev pub sent_between : World → World → List (List ℕ)
@@ -64,7 +64,7 @@ put_on_wire wire happens t =
 
 -- what arrives at a machine in a tick: the packets for it that were put on the wire so many ticks before
 abbrev pub is_frame_for : ℕ → Frame → Bool
-is_frame_for machine frame = is_for frame.sender machine frame.packet
+is_frame_for machine frame = comes_to frame.sender machine frame.packet
 
 abbrev pub arrival : Frame → Occurrence
 arrival frame = outside.Packet frame.packet

@@ -70,9 +70,6 @@ pub record IsComing (t : ℕ) (all coming : List EventValue) : Type 0 where
   pub ordered : are_in_order t coming ≡ true
   pub same : (u : ℕ) → t ≤ u → schedule_of all u ≡ schedule_of coming u
 
-pub all_coming : (all : List EventValue) → are_in_order 0 all ≡ true → IsComing 0 all all
-all_coming all ordered = record { ordered = ordered; same = λ u from. refl }
-
 -- what happens by it now, and what is still to come then
 pub coming_now : (t : ℕ) (all coming : List EventValue) → IsComing t all coming → occurrences (scheduled t coming) ≡ schedule_of all t
 coming_now t all coming is = ap occurrences (sym (firsts t coming is.ordered)) ∙ sym (is.same t (omega arith))

@@ -53,10 +53,6 @@ arrivals_are settled net i t zeros least = elim (cases_lt t net.delay) [
       ∙ ap (λ (frames : List Frame). map arrival (filter (is_frame_for i) frames)) (sym (settled net (t - net.delay) t zeros (omega arith))))
 ]
 
--- nothing is delivered before the first delay is over
-pub none_at_first : (net : Wire) (t : ℕ) → t < net.delay → coming_at net t ≡ []
-none_at_first net t below = rw (lt-ltb t net.delay below) refl
-
 map_joined : {A B : Type 0} (f : A → B) (g : ℕ → List A) (n : ℕ) → map f (joined g n) ≡ joined (λ i. map f (g i)) n
 map_joined f g zero = refl
 map_joined {B = B} f g (suc n) = map-append f (joined g n) (g n) ∙ ap (λ (xs : List B). xs ++ map f (g n)) (map_joined f g n)

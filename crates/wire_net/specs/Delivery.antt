@@ -2,7 +2,7 @@
 use Rattle.std.specs.Prelude.{ℕ, ◌+◌, List, [], ◌∷◌, Bool, true, false, nat_le, nat_lt, ◌==◌, ◌&&◌, if◌then◌else◌, filter, map}
 use Rattle.external_event.specs.declared.event.Occurrence.{Occurrence}
 use Rattle.external_event.specs.declared.event.Occurrence.TheVariants as outside
-use Rattle.wire_model.specs.Wire.{Frame, framed, is_for}
+use Rattle.wire_model.specs.Wire.{Frame, framed, comes_to}
 use Rattle.wire_net.specs.declared.delivery.Delivery.{Delivery}
 use Rattle.wire_net.specs.declared.delivery.Batch.{Batch}
 
@@ -25,7 +25,7 @@ deliveries_of sender time packets = map (λ (packet : List ℕ). delivered_at ti
 
 -- what happens in a machine by those of these that are for it
 abbrev pub is_delivery_for : ℕ → Delivery → Bool
-is_delivery_for machine delivery = is_for delivery.sender machine (packet_in delivery.event.what)
+is_delivery_for machine delivery = comes_to delivery.sender machine (packet_in delivery.event.what)
 
 abbrev pub arriving : ℕ → List Delivery → List Occurrence
 arriving machine due = map (λ (x : Delivery). x.event.what) (filter (is_delivery_for machine) due)

@@ -1,6 +1,6 @@
 //! Packets that are under way.
 ghost use Rattle.std.specs.Prelude.{◌≡◌, ◌≤◌, ◌<◌, ◌+◌, ℕ, true, OnOk};
-ghost use Rattle.wire_model.specs.Wire.{is_for};
+ghost use Rattle.wire_model.specs.Wire.{comes_to};
 ghost use Rattle.wire_net.specs.Delivery.{due_at, is_delivery_for, is_due, packet_in, rise_between};
 
 use aegis_limits::OutOfMemory;
@@ -28,8 +28,8 @@ pub(crate) struct Batch {
 }
 
 /// Whether a packet of one machine is for another.
-fn is_for(sender: u8, machine: u8, packet: &[u8]) -> bool
-    ensures { result ≡ is_for sender machine packet.now }
+fn comes_to(sender: u8, machine: u8, packet: &[u8]) -> bool
+    ensures { result ≡ comes_to sender machine packet.now }
 {
     match packet.get(5) {
         Some(byte) => machine != sender && (*byte == machine || *byte == ALL_OTHERS),
@@ -52,7 +52,7 @@ impl Delivery {
     pub fn is_for(&self, machine: u8) -> bool
         ensures { result ≡ is_delivery_for machine self.now }
     {
-        is_for(self.sender, machine, packet_in(&self.event.what))
+        comes_to(self.sender, machine, packet_in(&self.event.what))
     }
 }
 
