@@ -1,0 +1,166 @@
+"""What stands at a program's addresses: labels of a source in assembly; functions and lines of one in C, by the same program with
+its symbols; the symbols of an ELF file that has them.
+"""
+
+from __future__ import annotations
+
+import functools
+import os
+import re
+import shutil
+import struct
+import subprocess
+from bisect import bisect_right
+from dataclasses import dataclass, field
+from typing import Dict, Iterator, List, NamedTuple, Optional, Tuple
+
+from programs import Program, content, made
+from shown import decoded
+from source import DATA
+
+LINES = "mipsel-linux-gnu-addr2line"
+FUNCTION, OBJECT = 2, 1  # kinds of symbols
+SYMBOLS = 2  # the kind of a section
+
+
+class Line(NamedTuple):
+    """A line of a source, and what it says."""
+
+    file: str
+    number: int
+    text: str
+
+    def shown(self) -> str:
+        return f"{self.file}:{self.number}: {self.text}"
+
+
+class Section(NamedTuple):
+    """A section of an ELF file."""
+
+    name: str
+    kind: int
+    address: int
+    content: bytes
+    link: int
+
+
+def sections(file: bytes) -> List[Section]:
+    """The sections of an ELF file, where it has some."""
+    if len(file) < 52 or not file.startswith(b"\x7fELF\1\1"):
+        return []
+    first, (size, count, names) = struct.unpack_from("<I", file, 32)[0], struct.unpack_from("<3H", file, 46)
+    if not first or size != 40 or first + 40 * count > len(file):
+        return []
+    heads = [struct.unpack_from("<10I", file, first + 40 * at) for at in range(count)]
+    parts = [b"" if head[1] == 8 else file[head[4]: head[4] + head[5]] for head in heads]
+    table = parts[names] if names < count else b""
+    return [Section(text_at(table, head[0]), head[1], head[3], part, head[6]) for head, part in zip(heads, parts)]
+
+
+def text_at(table: bytes, place: int) -> str:
+    """The text of a table that begins at a place."""
+    return table[place: table.find(b"\0", place)].decode(errors="replace")
+
+
+def symbols(file: bytes) -> Iterator[Tuple[str, int, int, int]]:
+    """The functions and objects of an ELF file: name, address, size, kind."""
+    parts = sections(file)
+    for it in parts:
+        if it.kind == SYMBOLS and it.link < len(parts):
+            for place in range(0, len(it.content) - 15, 16):
+                name, address, size, info, _, part = struct.unpack_from("<3IBBH", it.content, place)
+                named = text_at(parts[it.link].content, name)
+                if part and part < 0xFF00 and (info & 15 in (FUNCTION, OBJECT) or info & 15 == 0 and re.match(r"[A-Za-z_]\w*$", named)):
+                    yield named, address, size, info & 15
+
+
+def fits(program: Program) -> bool:
+    """Whether the source's instructions stand where the listing has them."""
+    names = {"li": "lui", "la": "lui", "move": "addu", "b": "beq", "nop": "sll"}
+    order = program.source.instructions() if program.source else []
+    return bool(order) and all(
+        program.listing.get(it.address, "")[18:].split(" ")[0] == names.get(it.operation, it.operation) for it in order)
+
+
+def twin(program: Program) -> str:
+    """The path of the same program with its symbols, where there is one: its text is the same."""
+    if not program.directory:
+        return ""
+    name = os.path.splitext(os.path.basename(program.elf))[0]
+    if made(program.shown, program.directory, f"{name}.debug").returncode:
+        return ""
+    path = f"{program.directory}/{name}.debug"
+    text = next((it for it in sections(content(path)) if it.name == ".text"), None)
+    listed = [program.listing.get(text.address + at, "")[9:17] for at in range(0, len(text.content), 4)] if text else [""]
+    words = [f"{word:08x}" for word, in struct.iter_unpack("<I", text.content[: len(text.content) // 4 * 4])] if text else []
+    return path if listed == words else ""
+
+
+@dataclass
+class Places:
+    """The labels and lines of a program, by address."""
+
+    labels: Dict[str, int] = field(default_factory=dict)
+    functions: Dict[str, int] = field(default_factory=dict)  # labels at which a function of C begins
+    lines: Dict[int, Line] = field(default_factory=dict)  # by the address of an instruction
+    symbols: str = ""  # the path of the file with symbols, for a debugger
+    sources: Dict[str, List[str]] = field(default_factory=dict)  # the lines of each file
+
+    def __post_init__(self):
+        self.order = sorted((address, name) for name, address in self.labels.items())
+
+    def name(self, address: int) -> str:
+        """An address by the label before it and how far it is behind that, or nothing."""
+        at = bisect_right(self.order, (address, "\x7f")) - 1
+        if at < 0 or (self.order[at][0] >= DATA) != (address >= DATA) or address - self.order[at][0] >= 1 << 16:
+            return ""
+        begin = self.order[at][0]
+        label = next(name for place, name in self.order if place == begin)
+        return label if address == begin else f"{label}+{address - begin}"
+
+    def of_line(self, file: str, number: int) -> List[int]:
+        """The addresses of a line's instructions."""
+        return sorted(address for address, it in self.lines.items() if it.number == number and file in ("", it.file, os.path.basename(it.file)))
+
+
+def places_of(program: Program) -> Places:
+    """What is known of a program's addresses."""
+    if program.source and fits(program):
+        lines = {address: Line(program.shown, it.line, decoded(it.text).strip())
+                 for it in program.source.instructions() for address in range(it.address, it.address + it.size, 4)}
+        text = [decoded(it.text) for it in program.source.statements]
+        return Places({name: it.address for name, it in program.source.labels.items()}, {}, lines, "", {program.shown: text})
+    path = twin(program)
+    file = content(path) if path else content(f"{program.directory}/{program.elf}") if program.directory else b""
+    if not file and not program.source and os.path.isfile(program.shown) and program.shown.endswith((".elf", ".debug")):
+        file = content(program.shown)
+    found = {name: (address, kind) for name, address, _, kind in symbols(file) if not name.startswith("_")}
+    places = Places({name: address for name, (address, _) in found.items()}, {name: it for name, (it, kind) in found.items() if kind == FUNCTION},
+                    symbols=path)
+    if path:
+        add_lines_of_c(program, path, places)
+    return places
+
+
+def add_lines_of_c(program: Program, path: str, places: Places) -> None:
+    """The lines of each instruction, by the compiler's own tool where that is there."""
+    if not shutil.which(LINES):
+        return
+    addresses = sorted(program.listing)
+    ran = subprocess.run([LINES, "-e", path], input="".join(f"0x{it:x}\n" for it in addresses), stdout=subprocess.PIPE, text=True, errors="replace")
+    own = os.path.realpath(os.path.splitext(path)[0] + ".c")
+    for address, said in zip(addresses, ran.stdout.splitlines()):
+        found = re.match(r"(.*):(\d+)", said)
+        if found and os.path.isfile(found[1]):
+            name = program.shown if os.path.realpath(found[1]) == own else os.path.relpath(found[1])
+            text = lines_of(found[1])
+            if int(found[2]) <= len(text):
+                places.sources[name] = text
+                places.lines[address] = Line(name, int(found[2]), text[int(found[2]) - 1].strip())
+
+
+@functools.lru_cache(maxsize=None)
+def lines_of(path: str) -> List[str]:
+    """The lines of a file."""
+    with open(path, encoding="utf-8", errors="backslashreplace") as file:
+        return file.read().split("\n")
