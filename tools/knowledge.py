@@ -130,7 +130,7 @@ class Knowledge:
         if self.cells[IS_LOST]:
             raise Unknown("a store went to an address that isn't known")
         if self.cells.get(("shared", bound.page)):
-            raise Unknown("others store there too")
+            raise Unknown("others or the kernel store there too")
         place = address % PAGE_SIZE
         value = self.cells.get(("byte", bound.page, place), ABSENT)
         if value is ABSENT:

@@ -1,0 +1,128 @@
+"""Steps, registers and memory of a recording as lines of text."""
+
+from __future__ import annotations
+
+import re
+from typing import Iterable, Iterator, List, Optional, Tuple
+
+from instructions import is_store
+from knowledge import NAMES, Change, Knowledge, Unknown
+from places import Places
+from recording import Step
+from report import CAUSES, Environment, Head
+from shown import shown
+from source import without_comment
+
+LARGEST_DECIMAL = 9_999
+
+
+def number_shown(value: Optional[int]) -> str:
+    """A register's value: small ones in decimal, with a sign where it has one; `?` where it isn't known."""
+    if value is None:
+        return "?"
+    if value <= LARGEST_DECIMAL:
+        return str(value)
+    return str(value - (1 << 32)) if value >= (1 << 32) - LARGEST_DECIMAL else f"0x{value:08x}"
+
+
+def registers_changed(changes: Iterable[Change]) -> List[str]:
+    """The registers that differ behind some changes, by their names."""
+    last = {it.key: it.new for it in changes if isinstance(it.key, int)}
+    first = {it.key: it.old for it in reversed(list(changes)) if isinstance(it.key, int)}
+    return [f"{NAMES[key]} = {number_shown(value)}" for key, value in sorted(last.items()) if value != first[key]]
+
+
+def bytes_stored(step: Step, known: Knowledge, places: Places) -> List[str]:
+    """What a store put, as the word or the bytes at its address. `known` is what is known behind the step."""
+    if step.row.word is None or not is_store(step.row.word):
+        return []
+    put = [it for it in step.own if isinstance(it.key, tuple) and it.key[0] == "byte" and it.key[1] != ("vpn", 1)]
+    found = re.search(r",(-?\d+)\(\$(\d+)\)", step.row.text)
+    base = known.registers[int(found[2])] if found else None
+    if not put or base is None:
+        return []
+    address = base + int(found[1]) & 0xFFFFFFFF
+    width = {40: 1, 41: 2}.get(step.row.word >> 26, 4)
+    address -= address % 4 if width == 4 else 0
+    try:
+        value = int.from_bytes(bytes(known.byte(address + at) for at in range(width)), "little")
+    except Unknown:
+        return []
+    return [f"[{places.name(address) or f'0x{address:08x}'}] = {number_shown(value)}"]
+
+
+def statement(step: Step, places: Places) -> str:
+    """The line of the source with the instruction where that is another, or the instruction alone."""
+    line = places.lines.get(step.row.pc)
+    if line is None or step.row.word is None:
+        return step.row.text
+    text = without_comment(line.text).strip() if not places.symbols else line.text
+    operation = re.sub(r"^[A-Za-z_.][\w.]*:\s*", "", text).split(maxsplit=1)
+    is_one_of_several = places.symbols or operation and operation[0] in ("li", "la")
+    more = f"  ({step.row.text})" if is_one_of_several else ""
+    return f"{line.file}:{line.number}: {' '.join(text.split())}{more}"
+
+
+def step_line(step: Step, known: Knowledge, places: Places) -> str:
+    """A step: tick, address, label, source, what a call asked and was answered, and what changed. `known` is what is known behind it."""
+    row = step.row
+    effects = [step.asked + (f" = {step.answered}" if step.answered else "")] if step.asked else []
+    effects += [", ".join(registers_changed(step.own))] + bytes_stored(step, known, places) + (["dead"] if row.is_dead else [])
+    told = "; ".join(it for it in effects if it)
+    head = f"{row.tick:>6} {row.pc:08x} {places.name(row.pc):<10} {statement(step, places)}"
+    return f"{head} -> {told}" if told else head
+
+
+def kernel_line(changes: Iterable[Change], tick: Optional[int] = None) -> List[str]:
+    """What the kernel set behind the step before."""
+    told = registers_changed(list(changes))
+    when = "" if tick is None else f" before tick {tick}"
+    return [f"       set by the kernel{when}: {', '.join(told)}"] if told else []
+
+
+def register_table(known: Knowledge) -> Iterator[str]:
+    """All registers, four in a line."""
+    order = [(name, known.registers[place]) for place, name in enumerate(NAMES)]
+    for first in range(0, 34, 4):
+        yield "  " + "  ".join(f"{name:>5} {'????????' if value is None else f'{value:08x}'}" for name, value in order[first: first + 4])
+
+
+def memory_lines(known: Knowledge, address: int, words: int, places: Places) -> Iterator[str]:
+    """Words of memory, four in a line, with their bytes as characters; what isn't known as `?`, and why."""
+    address -= address % 4
+    why: List[Tuple[int, str]] = []
+    for first in range(address, address + 4 * words, 16):
+        data = []
+        for at in range(first, min(first + 16, address + 4 * words)):
+            try:
+                data.append(known.byte(at & 0xFFFFFFFF))
+            except Unknown as reason:
+                data.append(None)
+                if not why or why[-1][1] != str(reason):
+                    why.append((at, str(reason)))
+        digits = " ".join(word_shown(data[at: at + 4]) for at in range(0, len(data), 4))
+        letters = "".join("?" if it is None else chr(it) if 32 <= it < 127 else "." for it in data)
+        yield f"  {first & 0xFFFFFFFF:08x} {places.name(first):<10} {digits:<35}  {letters}"
+    for at, reason in why:
+        yield f"  {at & 0xFFFFFFFF:08x} isn't known: {reason}"
+
+
+def word_shown(data: List[Optional[int]]) -> str:
+    """A word by its bytes, the highest first."""
+    return "".join("??" if it is None else f"{it:02x}" for it in reversed(data))
+
+
+def console_at(env: Environment, length: int) -> str:
+    """The first bytes of a console as text."""
+    return shown(env.text()[:length].decode("utf-8", errors="backslashreplace"))
+
+
+def ending(env: Environment, head: Head, steps: List[Step]) -> str:
+    """How the environment ended."""
+    who = f"-- {env.number} {env.name}:"
+    if not steps:
+        return f"{who} no step in {head.time:,} ticks"
+    if env.life == "live":
+        return f"{who} {'alive at the limit' if head.ending == 'limit' else 'alive, without a slot'}, after {head.time:,} ticks"
+    how = f"exit {env.why}" if env.life == "exit" else f"dead {env.why}"
+    return f"{who} {how} in tick {steps[-1].row.tick:,}" + (f": {CAUSES[env.why]}" if env.life == "dead" else "")
