@@ -12,7 +12,7 @@ import struct
 import subprocess
 from bisect import bisect_right
 from dataclasses import dataclass, field
-from typing import Dict, Iterator, List, NamedTuple, Optional, Tuple
+from typing import Dict, Iterator, List, NamedTuple, Tuple
 
 from programs import Program, content, made
 from shown import decoded
@@ -103,7 +103,7 @@ class Places:
     labels: Dict[str, int] = field(default_factory=dict)
     functions: Dict[str, int] = field(default_factory=dict)  # labels at which a function of C begins
     lines: Dict[int, Line] = field(default_factory=dict)  # by the address of an instruction
-    symbols: str = ""  # the path of the file with symbols, for a debugger
+    symbols: str = ""  # the path of the file with symbols of a program in C
     sources: Dict[str, List[str]] = field(default_factory=dict)  # the lines of each file
 
     def __post_init__(self):
