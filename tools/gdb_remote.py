@@ -138,8 +138,10 @@ class Session:
 
 
 def serve(stepper: Stepper, port: int, symbols: str) -> None:
-    """Waits for one debugger, and answers it until it leaves. `symbols` is the path of the file that it reads symbols of, if any."""
+    """Waits for one debugger, and answers it until it leaves. `symbols` is the path of the file that it reads symbols of, if any.
+    Port 0 is one that is free."""
     with socket.create_server(("127.0.0.1", port)) as server:
+        port = server.getsockname()[1]
         say(f"{len(stepper.steps):,} steps wait at 127.0.0.1:{port}: gdb-multiarch{f' {symbols}' if symbols else ''} -ex 'target remote :{port}'")
         sys.stdout.flush()
         peer, _ = server.accept()

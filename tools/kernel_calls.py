@@ -2,7 +2,7 @@
 
 from __future__ import annotations
 
-from typing import Dict, List, NamedTuple, Optional, Sequence, Tuple
+from typing import Dict, NamedTuple, Optional, Sequence, Tuple
 
 CODE, VALUE, FIRST_ARGUMENT = 2, 3, 4  # registers
 ANY = 0xFFFFFFFF
@@ -13,6 +13,7 @@ ANSWERS = ("granted NoPage Taken NoneFree NotOwner NoRight BadVpn Guaranteed NoE
            "NoFilter BadHandler LineTaken ConsoleFull Full BadCall BadPointer Again").split()
 # How an argument is shown: a number, an address, or -1 where it names nobody or any.
 NUMBER, ADDRESS, CHOICE = range(3)
+LARGEST_DECIMAL = 65_535
 KINDS = {"address": ADDRESS, "words": ADDRESS, "mask": ADDRESS, "vpn": ADDRESS, "env": CHOICE, "any page": CHOICE}
 
 
@@ -43,7 +44,8 @@ def argument(kind: str, value: Optional[int]) -> str:
     how = KINDS.get(kind, NUMBER)
     if how == CHOICE and value == ANY:
         return "-1"
-    return f"0x{value:x}" if how == ADDRESS and value > 9 else f"{value:,}".replace(",", "") if value < 1 << 31 else f"0x{value:08x}"
+    is_hexadecimal = value > 9 if how == ADDRESS else value > LARGEST_DECIMAL
+    return f"0x{value:x}" if is_hexadecimal else str(value)
 
 
 def asked(registers: Sequence[Optional[int]]) -> str:
@@ -55,16 +57,6 @@ def asked(registers: Sequence[Optional[int]]) -> str:
     if call is None:
         return f"call {number}"
     shown = [argument(kind, registers[FIRST_ARGUMENT + place]) for place, kind in enumerate(call.arguments)]
-    return f"{call.name}({', '.join(shown)})"
-
-
-def names_of(number: Optional[int]) -> str:
-    """A call with the names of its arguments: `claim(address, atoms, page)`."""
-    call = CALLS.get(number) if number is not None else None
-    if call is None:
-        return "call ?" if number is None else f"call {number}"
-    kinds: List[str] = ["page" if it == "any page" else it for it in call.arguments]
-    shown = [it for place, it in enumerate(kinds) if it != "words" or kinds.index(it) == place]
     return f"{call.name}({', '.join(shown)})"
 
 

@@ -14,7 +14,7 @@ from bisect import bisect_right
 from dataclasses import dataclass, field
 from typing import Dict, Iterator, List, NamedTuple, Tuple
 
-from programs import Program, content, made
+from programs import ROOT, Program, content, made
 from shown import decoded
 from source import DATA
 
@@ -118,9 +118,13 @@ class Places:
         label = next(name for place, name in self.order if place == begin)
         return label if address == begin else f"{label}+{address - begin}"
 
-    def of_line(self, file: str, number: int) -> List[int]:
-        """The addresses of a line's instructions."""
-        return sorted(address for address, it in self.lines.items() if it.number == number and file in ("", it.file, os.path.basename(it.file)))
+    def of_line(self, file: str, number: int) -> Tuple[int, List[int]]:
+        """The addresses of the instructions of a line, or of the next one that has some, and its number; of the first file where
+        none is named."""
+        own = file or next(iter(self.sources), "")
+        found = {address: it.number for address, it in self.lines.items() if it.number >= number and own in (it.file, os.path.basename(it.file))}
+        nearest = min(found.values(), default=0)
+        return nearest, sorted(address for address, it in found.items() if it == nearest)
 
 
 def places_of(program: Program) -> Places:
@@ -134,10 +138,11 @@ def places_of(program: Program) -> Places:
     file = content(path) if path else content(f"{program.directory}/{program.elf}") if program.directory else b""
     if not file and not program.source and os.path.isfile(program.shown) and program.shown.endswith((".elf", ".debug")):
         file = content(program.shown)
-    found = {name: (address, kind) for name, address, _, kind in symbols(file) if not name.startswith("_")}
+    found = {name.split(".")[0]: (address, kind) for name, address, _, kind in symbols(file) if not name.startswith("_")}
     places = Places({name: address for name, (address, _) in found.items()}, {name: it for name, (it, kind) in found.items() if kind == FUNCTION},
                     symbols=path)
     if path:
+        places.sources[program.shown] = lines_of(os.path.splitext(path)[0] + ".c")
         add_lines_of_c(program, path, places)
     return places
 
@@ -152,11 +157,17 @@ def add_lines_of_c(program: Program, path: str, places: Places) -> None:
     for address, said in zip(addresses, ran.stdout.splitlines()):
         found = re.match(r"(.*):(\d+)", said)
         if found and os.path.isfile(found[1]):
-            name = program.shown if os.path.realpath(found[1]) == own else os.path.relpath(found[1])
+            name = program.shown if os.path.realpath(found[1]) == own else shown_path(found[1])
             text = lines_of(found[1])
             if int(found[2]) <= len(text):
-                places.sources[name] = text
+                places.sources.setdefault(name, text)
                 places.lines[address] = Line(name, int(found[2]), text[int(found[2]) - 1].strip())
+
+
+def shown_path(path: str) -> str:
+    """A file of this repository by its path there, and another as it is reached from here."""
+    inside = os.path.relpath(os.path.realpath(path), ROOT)
+    return os.path.relpath(path) if inside.startswith("..") else inside
 
 
 @functools.lru_cache(maxsize=None)

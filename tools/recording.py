@@ -53,7 +53,7 @@ def read_trace(text: str) -> Trace:
     """Reads a whole trace."""
     lines = text.split("\n")
     if len(lines) < 4 or lines[-1] or lines[-2] != "done" or not lines[-3].startswith("end "):
-        whole = max(len(lines) - 2, 0)
+        whole = len(lines) - 1
         raise Cut(f"the trace is cut behind its line {whole}: it isn't the end of the run" if whole else "there is no trace")
     return Trace(int(lines[0].split()[-1]), [read_row(line) for line in lines[1:-3]], lines[-3])
 

@@ -130,10 +130,11 @@ class Stepper:
 
     def do_line(self, rest: List[str], backwards: bool) -> Iterator[str]:
         file, _, count = rest[0].rpartition(":")
-        wanted = set(self.places.of_line(file, int(count)))
+        line, found = self.places.of_line(file, int(count))
+        wanted = set(found)
         if not wanted:
-            return iter([f"no instruction is at line {rest[0]}"])
-        return self.sought(lambda it: it.row.pc in wanted, backwards, f"step at line {rest[0]}")
+            return iter([f"no instruction is at line {rest[0]} or behind it"])
+        return self.sought(lambda it: it.row.pc in wanted, backwards, f"step at line {line}")
 
     def do_regs(self, _rest: List[str], _backwards: bool) -> Iterator[str]:
         return register_table(self.known)

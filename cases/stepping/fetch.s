@@ -1,0 +1,2 @@
+start:  jr   $8                 # which is 0, and no page is there
+        nop
