@@ -10,7 +10,6 @@ from recording import Cut, Follower, Recording, Trace, callers, read_trace
 from report import Report
 from source import number
 
-MOST_TRACED_TICKS = 262_144
 LACKING = "the program has no command `trace`: it is of an earlier release"
 
 

@@ -7,9 +7,9 @@ from typing import Dict, Iterator, List, Optional, Tuple
 
 import source
 from kernel_calls import CODE, answer_name, asked
+from limits import MOST_TRACED_TICKS
 from places import Places
 from programs import USAGE, Failed, Machine, aegis
-from recorded import MOST_TRACED_TICKS
 from recording import TRANSFERS
 from report import Report
 

@@ -1,4 +1,4 @@
-"""What a trace writes: docs/REPORT.md, "A trace". `python3 trace.py IMAGE SCHEDULE TICKS ENV` writes it."""
+"""What a trace writes: docs/REPORT.md, "The trace". `python3 trace.py IMAGE SCHEDULE TICKS ENV` writes it."""
 import sys
 
 from board import Memory
