@@ -135,14 +135,15 @@ def places_of(program: Program) -> Places:
         text = [decoded(it.text) for it in program.source.statements]
         return Places({name: it.address for name, it in program.source.labels.items()}, {}, lines, "", {program.shown: text})
     path = twin(program)
-    file = content(path) if path else content(f"{program.directory}/{program.elf}") if program.directory else b""
-    if not file and not program.source and os.path.isfile(program.shown) and program.shown.endswith((".elf", ".debug")):
-        file = content(program.shown)
+    if not path and not program.source and not program.directory and os.path.isfile(program.shown) and any(symbols(content(program.shown))):
+        path = program.shown  # an ELF file that has them itself
+    file = content(path) if path else b""
     found = {name.split(".")[0]: (address, kind) for name, address, _, kind in symbols(file) if not name.startswith("_")}
     places = Places({name: address for name, (address, _) in found.items()}, {name: it for name, (it, kind) in found.items() if kind == FUNCTION},
                     symbols=path)
     if path:
-        places.sources[program.shown] = lines_of(os.path.splitext(path)[0] + ".c")
+        if program.directory:
+            places.sources[program.shown] = lines_of(os.path.splitext(path)[0] + ".c")
         add_lines_of_c(program, path, places)
     return places
 
