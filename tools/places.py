@@ -127,6 +127,7 @@ class Places:
         return nearest, sorted(address for address, it in found.items() if it == nearest)
 
 
+@functools.lru_cache(maxsize=None)
 def places_of(program: Program) -> Places:
     """What is known of a program's addresses."""
     if program.source and fits(program):

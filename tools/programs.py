@@ -57,7 +57,7 @@ class Failed(Exception):
         self.status = status
 
 
-@dataclass
+@dataclass(eq=False)  # what is kept of a program is found by itself
 class Program:
     """A program of the run."""
 
