@@ -24,16 +24,15 @@ from typing import Callable, Dict, Iterator, List, Optional, Sequence, Set
 LABS = os.path.dirname(os.path.realpath(__file__))
 TOOLS = f"{os.path.dirname(LABS)}/tools"
 sys.path.insert(0, TOOLS)
+import kernel_calls
 from built import program
 from packets import NO_WIRE, reports
 from report import CAUSES, Cpu, Environment, Lines, Mark, Report, read, read_head
 from shown import decoded, open_output, shown
 from source import read_source
 
-ANSWERS = {0: "granted", 4: "NotOwner", 5: "NoRight", 6: "BadVpn", 7: "Guaranteed", 8: "NoEnv", 9: "NotAccepted",
-           10: "NoSlice", 12: "NotHolder", 20: "BadCall"}
-CALLS = ("yield put exit alloc free recap bind unbind context accept transfer take drop query claim unclaim handler line "
-         "backup send self clock").split()
+ANSWERS = dict(enumerate(kernel_calls.ANSWERS))  # the names of codes
+CALLS = [it.name for _, it in sorted(kernel_calls.CALLS.items())]
 LAST_TICKS = 300  # of an environment that doesn't end, in which its calls are looked at
 FIRST_TICKS = 2_000  # in which the first of them is sought
 

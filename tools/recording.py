@@ -15,7 +15,7 @@ from boot_memory import Image
 from instructions import access, cause, is_call, is_jump, is_store, stored, target
 from kernel_calls import CODE, FIRST_ARGUMENT, VALUE, answered, asked
 from knowledge import (ASYNCHRONOUS, AT, CONSOLE, CONTEXT, END_AREA, ENDS, ENTRY_AREA, EXCEPTION_AREA, EXCEPTIONS, HAS_CLAIM, HI, IS_LOST, IS_VAGUE, K0, K1,
-                       LINES, LO, MOST_RECORDS, NEXT, NO_BACKUP, PC, POST_LINES, POST_LOST, POST_OUTSTANDING, POST_PACKETS, POST_TAKINGS, RECORDS, SLOT,
+                       LINES, LO, MOST_RECORDS, NEXT, NO_BACKUP, PC, POST_LINES, POST_OUTSTANDING, POST_PACKETS, POST_TAKINGS, RECORDS, SLOT,
                        START_AREA, STARTS, Binding, Change, Knowledge)
 from limits import PAGE_SIZE
 from report import Report

@@ -4,8 +4,8 @@
 
 runs N seeds from FIRST on; without these words those of the gate. The image and the schedule of a seed at which the two differ
 are kept in FOLDER. With --traces the trace of each environment is compared too, and that of one that the image lacks; and
-whether the registers of a trace's last line are those of the report. How often each thing happened in all runs together is printed, and is a failure where it is too seldom to
-be a test; of fewer than half the seeds of the gate that isn't asked.
+whether the registers of a trace's last line are those of the report. How often each thing happened in all runs together is
+printed, and is a failure where it is too seldom to be a test; of fewer than half the seeds of the gate that isn't asked.
 Prints a line for each failure, and last 'NAME: N passed, M failed', a seed being one, and each thing that happened another.
 """
 from __future__ import annotations
