@@ -77,8 +77,12 @@ LEDGER = {
     "Syntax": "the line isn't of the form that is due here, or the text ends too early",
     "Range": "a number is outside its limits",
 }
+FLAT = {
+    "Empty": "the file has no byte",
+    "TooBig": "the file has more bytes than physical memory",
+}
 KINDS: Dict[str, Dict[str, str]] = {"source": SOURCE, "manifest": MANIFEST, "image": IMAGE, "ELF file": ELF, "schedule": SCHEDULE,
-                                    "report or plan": LEDGER}
+                                    "report or plan": LEDGER, "flat file": FLAT}
 
 # What is written elsewhere, and what to write here. A, B are the operands as they stand.
 INSTEAD = {
