@@ -48,7 +48,12 @@ fn due(alloc: Global, call: RunBare<'_>, file: &[u8]) -> Result<Answer, OutOfMem
             text,
             status: Status::Done,
         }),
-        Err(Failure::Fault(fault)) => Answer::refusal(alloc, call.file, fault.name(), fault.place()),
+        Err(Failure::Fault(fault)) => Answer::refusal(
+            alloc,
+            call.file,
+            fault.name(),
+            fault.place(),
+        ),
         Err(Failure::OutOfMemory) => Err(OutOfMemory),
     }
 }
