@@ -1,2 +1,3 @@
 mod Texts
+mod Pairing
 pub mod Completeness

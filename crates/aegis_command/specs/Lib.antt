@@ -3,5 +3,7 @@ pub mod LoadSeed
 pub mod AuditLedger
 pub mod TraceEnv
 pub mod RunBare
+pub mod WireMachines
+pub mod Pairs
 pub mod Words
 pub mod Headline

@@ -14,6 +14,7 @@ mod ticks;
 mod top;
 mod trace_env;
 mod traced_ticks;
+mod wire_machines;
 mod words;
 
 pub use commands::Status;

@@ -12,6 +12,7 @@ use crate::load_seed::LoadSeed;
 use crate::run_bare::RunBare;
 use crate::run_image::RunImage;
 use crate::trace_env::TraceEnv;
+use crate::wire_machines::WireMachines;
 use commands::{Answer, Asm, ListElf, MakeImage, Stop, perform};
 use edge_io::Shelf;
 use std::alloc::Global;
@@ -35,6 +36,8 @@ pub enum Words<'a> {
     TraceEnv(TraceEnv<'a>),
     /// `bare FILE TICKS PERIOD`.
     RunBare(RunBare<'a>),
+    /// `wire DELAY TICKS (IMAGE SCHEDULE)..`.
+    WireMachines(WireMachines<'a>),
 }
 
 /// The one word that there is.
@@ -82,6 +85,9 @@ pub fn parse(words: &[String]) -> Option<Words<'_>>
     if word == "bare" {
         return Some(Words::RunBare(RunBare::parse(rest)?));
     }
+    if word == "wire" {
+        return Some(Words::WireMachines(WireMachines::parse(rest)?));
+    }
     None
 }
 
@@ -105,5 +111,6 @@ pub fn perform_words<S: Shelf>(
         Words::AuditLedger(command) => perform(alloc, &command, shelf),
         Words::TraceEnv(command) => perform(alloc, &command, shelf),
         Words::RunBare(command) => perform(alloc, &command, shelf),
+        Words::WireMachines(command) => perform(alloc, &command, shelf),
     }
 }

@@ -1,0 +1,294 @@
+//! The command `wire DELAY TICKS (IMAGE SCHEDULE)..`.
+ghost use Rattle.std.specs.Prelude.{◌≡◌, ◌≤◌, ◌<◌, ◌+◌, ◌*◌, ◌%◌, ◌^◌, ◌++◌, [], IfOk, OnOk, get_or, length, map, option_map, string_bytes, true};
+ghost use Rattle.std.specs.List.{AllByRecursion};
+ghost use Rattle.board_model.specs.Shown.{Shown};
+ghost use Rattle.board_model.specs.Showing.{world_of};
+ghost use Rattle.edge_io.specs.Reads.{held};
+ghost use Rattle.run_model.specs.Run.{end_of_run};
+ghost use Rattle.wire_model.specs.Limits.{most_delay, most_wire_ticks};
+ghost use Rattle.commands.specs.Command.{IsShort, content as content_at};
+ghost use Rattle.aegis_command.specs.Pairs.{ArePairs, IsPair};
+ghost use Rattle.aegis_command.specs.WireMachines.{are_pairs, delay_of, machine_report, reports_text, wire_machines, wire_ticks_of, wire_words};
+
+use aegis_calls::Board;
+use aegis_limits::OutOfMemory;
+use aegis_tick::boot;
+use boot_image::read_image;
+use boot_schedule::{law_in_order, read_schedule};
+use commands::{Answer, Command, Status, content};
+use external_event::Event;
+use kernel_journal::RunEnd;
+use line_text::{Failure, Word, decimal, push_line};
+use run_report::report;
+use std::alloc::Global;
+use wire_model::{MOST_DELAY, MOST_MACHINES, MOST_WIRE_TICKS};
+use wire_net::wire;
+use world_model::WorldView;
+
+/// The ticks that a wire takes to carry a packet.
+#[derive(Clone, Copy)]
+pub struct Delay {
+    /// From 1 to `MOST_DELAY`.
+    pub ticks: u32,
+    ghost least: { 1 ≤ ticks },
+    ghost most: { ticks ≤ most_delay },
+}
+
+impl Delay {
+    /// The delay that a word gives, if it is one.
+    pub fn parse(word: &str) -> Option<Delay>
+        ensures { option_map (λ delay. delay.ticks) result ≡ delay_of word.now }
+    {
+        let ticks = decimal(word.as_bytes())?;
+        if 1 <= ticks && ticks <= MOST_DELAY {
+            Some(Delay { ticks })
+        } else {
+            None
+        }
+    }
+}
+
+/// The ticks of a run on a wire.
+#[derive(Clone, Copy)]
+pub struct WireTicks {
+    /// At most `MOST_WIRE_TICKS`.
+    pub number: u32,
+    ghost within: { number ≤ most_wire_ticks },
+}
+
+impl WireTicks {
+    /// The ticks that a word gives, if it is a number of them.
+    pub fn parse(word: &str) -> Option<WireTicks>
+        ensures { option_map (λ ticks. ticks.number) result ≡ wire_ticks_of word.now }
+    {
+        let number = decimal(word.as_bytes())?;
+        if number <= MOST_WIRE_TICKS {
+            Some(WireTicks { number })
+        } else {
+            None
+        }
+    }
+}
+
+/// `wire DELAY TICKS (IMAGE SCHEDULE)..`: the reports of machines on a wire, each with its schedule.
+#[derive(Clone, Copy)]
+pub struct WireMachines<'a> {
+    /// The ticks that the wire takes to carry a packet.
+    pub delay: Delay,
+    /// How many ticks to run.
+    pub ticks: WireTicks,
+    /// The names of the files: of each machine's image, and then of its schedule.
+    pub files: &'a [String],
+    ghost pairs: { are_pairs (map string_bytes files.now) ≡ true },
+}
+
+impl<'a> WireMachines<'a> {
+    /// The run on a wire that the words behind `wire` ask for, if they are one's.
+    pub fn parse(words: &'a [String]) -> Option<WireMachines<'a>>
+        ensures { option_map (λ c. wire_machines (map string_bytes c.files.now) c.delay.ticks c.ticks.number) result ≡ wire_words (map string_bytes words.now) }
+    {
+        let [delay, ticks, files @ ..] = words else {
+            return None;
+        };
+        if files.len() % 2 != 0 || files.len() < 2 || files.len() > 2 * MOST_MACHINES {
+            return None;
+        }
+        let delay = Delay::parse(delay.as_str())?;
+        let ticks = WireTicks::parse(ticks.as_str())?;
+        Some(WireMachines {
+            delay,
+            ticks,
+            files,
+        })
+    }
+}
+
+/// Machines that are booted, and their schedules.
+#[derive(Drop)]
+struct Machines {
+    boards: Vec<Board>,
+    schedules: Vec<Vec<Event>>,
+}
+
+/// What an image and a schedule are: a machine that is booted, or the refusal of the first that has a fault.
+#[derive(Drop)]
+enum Pair {
+    Refused(Answer),
+    Sound(Board, Vec<Event>),
+}
+
+/// What all pairs are.
+#[derive(Drop)]
+enum Pairs {
+    Refused(Answer),
+    Sound(Machines),
+}
+
+/// The machine of an image and a schedule of these names, if neither has a fault.
+fn pair_of(
+    alloc: Global,
+    image_name: &str,
+    schedule_name: &str,
+    image: &[u8],
+    schedule: &[u8],
+) -> Result<Pair, OutOfMemory>
+    requires image { length image.now < 2 ^ 27 }
+    requires schedule { length schedule.now < 2 ^ 27 }
+    ensures { IfOk result (IsPair image_name.now schedule_name.now image.now schedule.now) }
+{
+    law_in_order();
+    let image = match read_image(alloc, image) {
+        Ok(image) => image,
+        Err(Failure::Fault(fault)) => {
+            let answer = Answer::refusal(alloc, image_name, fault.why.name(), fault.place)?;
+            return Ok(Pair::Refused(answer));
+        }
+        Err(Failure::OutOfMemory) => return Err(OutOfMemory),
+    };
+    let events = match read_schedule(alloc, schedule) {
+        Ok(events) => events,
+        Err(Failure::Fault(fault)) => {
+            let answer = Answer::refusal(alloc, schedule_name, fault.why.name(), fault.line)?;
+            return Ok(Pair::Refused(answer));
+        }
+        Err(Failure::OutOfMemory) => return Err(OutOfMemory),
+    };
+    let board = boot(alloc, &image)?;
+    Ok(Pair::Sound(board, events))
+}
+
+/// The name at a place.
+fn name_at(names: &[String], place: usize) -> &str
+    requires { place < length names.now }
+    ensures { result.now ≡ get_or (map string_bytes names.now) place [] }
+{
+    names[place].as_str()
+}
+
+/// The machine of the pair of this number.
+fn pair_at(
+    alloc: Global,
+    names: &[String],
+    contents: &[Vec<u8>],
+    pair: usize,
+) -> Result<Pair, OutOfMemory>
+    requires count { length contents.now ≡ length names.now }
+    requires within { 2 * pair + 1 < length names.now }
+    requires short { AllByRecursion IsShort (held contents.now) }
+    ensures { IfOk result (IsPair (get_or (map string_bytes names.now) (2 * pair) []) (get_or (map string_bytes names.now) (2 * pair + 1) []) (content_at (held contents.now) (2 * pair)) (content_at (held contents.now) (2 * pair + 1))) }
+{
+    let first = 2 * pair;
+    pair_of(
+        alloc,
+        name_at(names, first),
+        name_at(names, first + 1),
+        content(contents, first),
+        content(contents, first + 1),
+    )
+}
+
+/// The machines of these files, by pairs of an image and a schedule, if no file has a fault.
+fn pairs_of(alloc: Global, names: &[String], contents: &[Vec<u8>]) -> Result<Pairs, OutOfMemory>
+    requires count { length contents.now ≡ length names.now }
+    requires pairs { length names.now % 2 ≡ 0 }
+    requires short { AllByRecursion IsShort (held contents.now) }
+    ensures { IfOk result (ArePairs (map string_bytes names.now) (held contents.now)) }
+{
+    let mut boards = Vec::new(alloc);
+    let mut schedules = Vec::new(alloc);
+    for pair in 0..names.len() / 2 {
+        match pair_at(alloc, names, contents, pair)? {
+            Pair::Refused(answer) => return Ok(Pairs::Refused(answer)),
+            Pair::Sound(board, events) => {
+                boards.push(board)?;
+                schedules.push(events)?;
+            }
+        }
+    }
+    Ok(Pairs::Sound(Machines { boards, schedules }))
+}
+
+/// How the run of a board ended, of so many ticks.
+fn end_of(board: &Board, ticks: u32) -> RunEnd
+    ensures { result ≡ end_of_run (world_of board.now) ticks }
+{
+    if board.time() == ticks {
+        RunEnd::Limit
+    } else {
+        RunEnd::Idle
+    }
+}
+
+/// Appends the number of a machine, and its report after so many ticks.
+#[tactic(auto, unfolding(line_text::specs::WrittenLine::line_of))]
+fn push_machine(
+    alloc: Global,
+    out: &mut Vec<u8>,
+    machine: usize,
+    board: &Board,
+    ticks: u32,
+) -> Result<(), OutOfMemory>
+    ensures { OnOk result (out.new.items ≡ out.old.items ++ machine_report machine (world_of board.now) ticks) }
+{
+    push_line(out, b"machine", &[Word::Number(machine as u64)])?;
+    let text = report(alloc, board, end_of(board, ticks))?;
+    out.extend_from_slice(&text)?;
+    Ok(())
+}
+
+/// The reports of machines after so many ticks on a wire.
+#[tactic(auto, unfolding(line_text::specs::WrittenLine::line_of))]
+fn reports(alloc: Global, boards: &[Board], ticks: u32) -> Result<Vec<u8>, OutOfMemory>
+    ensures { IfOk result (λ text. (b : Shown) → text.items ≡ reports_text (λ i. world_of (get_or boards.now i b)) (length boards.now) ticks) }
+{
+    let mut text = Vec::new(alloc);
+    push_line(
+        &mut text,
+        b"aegis",
+        &[Word::Text(b"wire"), Word::Number(boards.len() as u64)],
+    )?;
+    for machine in 0..boards.len() {
+        push_machine(alloc, &mut text, machine, &boards[machine], ticks)?;
+    }
+    push_line(&mut text, b"done", &[])?;
+    Ok(text)
+}
+
+impl Command for WireMachines<'_> {
+    ghost value = { λ command. wire_machines (map string_bytes command.files.now) command.delay.ticks command.ticks.number };
+
+    fn names(&self, alloc: Global) -> Result<Vec<String>, OutOfMemory> {
+        let mut names = Vec::new(alloc);
+        for file in self.files {
+            names.push(String::from_str(alloc, file.as_str())?)?;
+        }
+        Ok(names)
+    }
+
+    fn further(&self, alloc: Global, _contents: &[Vec<u8>]) -> Result<Vec<String>, OutOfMemory> {
+        Ok(Vec::new(alloc))
+    }
+
+    fn answer(&self, alloc: Global, contents: &[Vec<u8>]) -> Result<Answer, OutOfMemory> {
+        match pairs_of(alloc, self.files, contents)? {
+            Pairs::Refused(answer) => Ok(answer),
+            Pairs::Sound(machines) => {
+                let Machines {
+                    mut boards,
+                    schedules,
+                } = machines;
+                wire(
+                    alloc,
+                    &mut boards,
+                    &schedules,
+                    self.delay.ticks,
+                    self.ticks.number,
+                )?;
+                Ok(Answer {
+                    text: reports(alloc, &boards, self.ticks.number)?,
+                    status: Status::Done,
+                })
+            }
+        }
+    }
+}
