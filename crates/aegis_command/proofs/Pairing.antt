@@ -1,10 +1,9 @@
 -- Files by pairs, one pair behind another.
-use Rattle.std.proofs.Common.{◌≡◌, ℕ, zero, suc, ◌+◌, ◌*◌, ◌/◌, ◌%◌, ◌<◌, ◌≤◌, List, [], ◌∷◌, ◌++◌, Option, None, drop, length, get_or, refl, sym, ◌∙◌, ap, subst, arith, inl, inr, true}
+use Rattle.std.proofs.Common.{◌≡◌, ℕ, zero, suc, ◌+◌, ◌*◌, ◌%◌, ◌<◌, ◌≤◌, List, [], ◌∷◌, ◌++◌, Option, drop, length, get_or, refl, sym, ◌∙◌, ap, subst, arith, inl, inr, true}
 use Rattle.std.specs.Prelude.{Vec, nat_le, ◌==◌, ◌&&◌}
 use Rattle.std.specs.Global.{Global}
 use Rattle.std.proofs.lemmas.Bool.{and_parts, cases_lt, leb-true}
 use Rattle.std.proofs.lemmas.List.{drop_more, get_or_append_left, get_or_at}
-use Rattle.boot_image.specs.declared.fault.ImageFault.{ImageFault}
 use Rattle.boot_image.specs.ImageFaults.{image_fault}
 use Rattle.boot_schedule.specs.Schedule.{schedule_fault}
 use Rattle.external_event.specs.EventValue.{EventValue}

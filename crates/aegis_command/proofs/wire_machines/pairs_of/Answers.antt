@@ -1,5 +1,5 @@
 -- One pair of files more.
-use Rattle.std.proofs.Common.{◌≡◌, ◌∙◌, ◌<◌, ◌≤◌, ◌+◌, ◌*◌, ◌/◌, ◌%◌, ℕ, List, [], ◌++◌, ◌∷◌, drop, get_or, ap, sym, subst, arith, length, map}
+use Rattle.std.proofs.Common.{◌≡◌, ◌∙◌, ◌<◌, ◌≤◌, ◌+◌, ◌*◌, ◌/◌, ℕ, List, [], ◌++◌, ◌∷◌, drop, get_or, ap, sym, subst, arith, length, map}
 use Rattle.std.specs.Prelude.{string_bytes, Option, Vec}
 use Rattle.std.specs.Global.{Global}
 use Rattle.std.proofs.lemmas.List.{length-map}

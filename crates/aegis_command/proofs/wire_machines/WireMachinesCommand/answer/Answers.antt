@@ -1,5 +1,5 @@
 -- The machines of sound files run on a wire.
-use Rattle.std.proofs.Common.{◌≡◌, ◌∙◌, ◌<◌, ◌≤◌, ◌*◌, ◌/◌, ℕ, List, [], ◌∷◌, ◌++◌, get_or, ap, sym, subst, refl, arith, length, map, true}
+use Rattle.std.proofs.Common.{◌≡◌, ◌∙◌, ◌<◌, ◌≤◌, ℕ, List, [], ◌∷◌, ◌++◌, get_or, ap, sym, subst, refl, arith, length, map, true}
 use Rattle.std.specs.Prelude.{codes, string_bytes, Vec}
 use Rattle.std.specs.Global.{Global}
 use Rattle.std.proofs.lemmas.List.{append-nil, length-map, with_items_is}
