@@ -127,8 +127,9 @@ def happenings(report: Report, traces: Dict[int, Trace], events: List[Tuple[int,
             found.append(Happening(tick, phase, len(found), env, what, words))
 
     for tick, kind, which in events:
-        for env in traces:
-            add(tick, BEFORE, env, kind, which)
+        if tick < report.head.time:  # behind its end nothing happens
+            for env in traces:
+                add(tick, BEFORE, env, kind, which)
     for it in report.marks:
         words = it.row.split()
         if it.kind in ("asked", "take"):
