@@ -3,6 +3,8 @@ use Rattle.std.specs.Prelude.{ℕ, Bool, true, false, Option, Some, None, Result
 use Rattle.mips_exec.specs.declared.registers.Cpu.{Cpu}
 use Rattle.mips_exec.specs.declared.reach.Access.{Access}
 use Rattle.mips_exec.specs.declared.exception.Exc.{Exc}
+use Rattle.mips_exec.specs.declared.exception.Outcome.{Outcome}
+use Rattle.mips_exec.specs.declared.exception.Outcome.TheVariants as outcome
 use Rattle.mips_exec.specs.declared.change.Change.{Change}
 use Rattle.mips_exec.specs.Exception.{at_address}
 use Rattle.mips_exec.specs.Access.{Write, write_of}
@@ -30,6 +32,12 @@ step_of_change cpu a (Err exc) = Trapped exc
 -- the step of a word that was fetched, over memory that answers so
 abbrev pub fetched_step : Answers → Cpu → ℕ → Step
 fetched_step answers cpu word = decoded cpu (Ok word) (access_after answers cpu (Ok word))
+
+-- the instruction is done
+abbrev pub is_retired : Outcome → Bool
+is_retired outcome.Retired = true
+is_retired outcome.Call = false
+is_retired (outcome.Trap exc) = false
 
 -- the step retires
 abbrev pub has_retired : Step → Bool

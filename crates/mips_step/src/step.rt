@@ -6,7 +6,7 @@ ghost use Rattle.mips_exec.specs.Step.{cpu_after, outcome_of, step_of, view_of, 
 ghost use Rattle.mips_step.specs.Live.{HasZero, IsSameLive, joined};
 ghost use Rattle.mips_step.specs.WordStep.{fetched_step, has_retired, step_of_change};
 
-use crate::change::apply;
+use crate::change::{apply, retire};
 use crate::live::Live;
 use crate::memory::Bus;
 use crate::memory_table::change_after_access;
@@ -58,8 +58,11 @@ pub fn retire_live<B: Bus>(live: &mut Live<'_>, bus: &mut B, word: u32) -> bool
     ensures retired { result ≡ has_retired (fetched_step (B.answers bus.old) (joined live.old) word) }
     ensures memory { Wrote B.Kept B.Stored bus.old (write_after (fetched_step (B.answers bus.old) (joined live.old) word)) bus.new }
 {
-    match change_of_word(live, bus, word) {
-        Ok(change) => matches!(apply(live, change), Outcome::Retired),
+    if word < ACCESSES {
+        return retire(live, change_without_access(live, word));
+    }
+    match change_after_access(live, bus, word) {
+        Ok(change) => retire(live, change),
         Err(_) => false,
     }
 }
