@@ -1,5 +1,6 @@
 -- The step of a word that was fetched: the answer to its load or store, its write, and whether it retires.
-use Rattle.std.specs.Prelude.{ℕ, Bool, true, false, Option, Some, None, Result, Ok, Err}
+use Rattle.std.specs.Prelude.{◌≡◌, ℕ, Bool, true, false, Option, Some, None, Result, Ok, Err}
+use Rattle.mips_isa.specs.Fields.{opcode_of}
 use Rattle.mips_exec.specs.declared.registers.Cpu.{Cpu}
 use Rattle.mips_exec.specs.declared.reach.Access.{Access}
 use Rattle.mips_exec.specs.declared.exception.Exc.{Exc}
@@ -44,3 +45,8 @@ abbrev pub has_retired : Step → Bool
 has_retired (Retired cpu write) = true
 has_retired Called = false
 has_retired (Trapped exc) = false
+
+-- The instruction table has no word of coprocessor 0's opcode that retires.
+abbrev pub SystemWordsTrap : Type 0
+SystemWordsTrap =
+    (answers : Answers) (cpu : Cpu) (word : ℕ) → opcode_of word ≡ 16 → has_retired (fetched_step answers cpu word) ≡ false

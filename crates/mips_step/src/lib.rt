@@ -11,7 +11,7 @@ mod memory_table;
 mod step;
 mod table;
 
-pub use laws::steps_are_sound;
+pub use laws::{law_system_words_trap, steps_are_sound};
 pub use live::Live;
 pub use memory::Bus;
 pub use step::{retire_live, step_fetched, step_user};

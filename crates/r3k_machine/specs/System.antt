@@ -1,5 +1,5 @@
 -- A step in either mode: in kernel mode the instructions of coprocessor 0 are done.
-use Rattle.std.specs.Prelude.{ℕ, ◌/◌, ◌==◌, if◌then◌else◌, List, Option, Some, None, Result, Ok, Err}
+use Rattle.std.specs.Prelude.{◌≡◌, ℕ, ◌/◌, true, ◌==◌, if◌then◌else◌, List, Option, Some, None, Result, Ok, Err}
 use Rattle.mips_isa.specs.declared.insn.Insn.{Insn}
 use Rattle.mips_isa.specs.declared.insn.Insn.TheVariants.{Mfc0, Mtc0, Tlbr, Tlbwi, Tlbwr, Tlbp, Rfe}
 use Rattle.mips_isa.specs.Encoding.{insn_of}
@@ -11,6 +11,7 @@ use Rattle.mips_exec.specs.declared.exception.Outcome.TheVariants as outcome
 use Rattle.mips_exec.specs.Cpu.{advanced, reg, with_reg}
 use Rattle.mips_exec.specs.Exception.{plain}
 use Rattle.mips_exec.specs.Step.{Step, cpu_after, fetched, outcome_of, write_after}
+use Rattle.mips_step.specs.WordStep.{has_retired}
 use Rattle.aegis_limits.specs.Limits.{page_size}
 use Rattle.r3k_tlb.specs.declared.row.Row.{Row}
 use Rattle.r3k_tlb.specs.Rows.{first_fitting_place, row_at, with_row_at}
@@ -18,7 +19,7 @@ use Rattle.r3k_cp0.specs.declared.registers.Cp0.{Cp0}
 use Rattle.r3k_cp0.specs.Enter.{left}
 use Rattle.r3k_cp0.specs.Registers.{cp0_reg, current_pid, index_row, is_user, probe_word, with_cp0_reg}
 use Rattle.r3k_machine.specs.declared.machine.Machine.{Machine}
-use Rattle.r3k_machine.specs.Machine.{after_attempts}
+use Rattle.r3k_machine.specs.Machine.{after_attempts, user_step}
 use Rattle.r3k_machine.specs.Memory.{frames_written, row_answers, row_step}
 
 -- ---- the instructions of coprocessor 0
@@ -93,3 +94,9 @@ machine_step m frames =
 -- Random has fallen, as after each attempted step
 abbrev pub with_random_fallen : Machine → Machine
 with_random_fallen m = record m { cp0 = after_attempts 1 m.cp0 }
+
+-- A step of the instruction table that retires is the machine's, in either mode.
+abbrev pub RetiredStepsAreTheMachines : Type 0
+RetiredStepsAreTheMachines =
+    (m : Machine) (frames : List (List ℕ)) → has_retired (user_step m frames) ≡ true
+    → machine_step m frames ≡ table_step m frames (user_step m frames)

@@ -1,7 +1,6 @@
 //! The page that instructions are fetched from.
 ghost use Rattle.std.specs.Prelude.{◌≡◌, ◌%◌, Ok, true, length, IfNone, IfSome, IsErr};
 ghost use Rattle.mips_exec.specs.Step.{fetched};
-ghost use Rattle.r3k_cp0.specs.Registers.{is_user};
 ghost use Rattle.r3k_machine.specs.Code.{IsCode, has};
 ghost use Rattle.r3k_machine.specs.Memory.{row_answers};
 
@@ -12,7 +11,7 @@ use frame_store::Frames;
 use r3k_cp0::Cp0;
 use r3k_tlb::Tlb;
 
-/// A page of physical memory that a user's instructions are fetched from.
+/// A page of physical memory that instructions are fetched from.
 #[derive(Clone, Copy)]
 pub(crate) struct CodePage {
     /// The address of its first byte, as the program sees it.
@@ -25,7 +24,6 @@ impl CodePage {
     /// The page of an address that may be fetched from.
     #[tactic(auto, unfolding(crate::specs::Memory::row_answers))]
     pub fn of(frames: &Frames, tlb: &Tlb, cp0: &Cp0, address: u32) -> Option<CodePage>
-        requires { is_user cp0.now ≡ true }
         ensures code { IfSome result (λ c. IsCode cp0.now tlb.now frames.now c) }
         ensures has { IfSome result (λ c. has c address ≡ true) }
         ensures none { IfNone result (IsErr (fetched (row_answers cp0.now tlb.now frames.now) address)) }

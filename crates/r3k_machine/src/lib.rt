@@ -3,10 +3,12 @@
 
 mod bus;
 mod code;
+mod laws;
 mod machine;
 mod run;
 mod system;
 mod translation;
 
+pub use laws::law_retired_steps;
 pub use machine::{Machine, MachineEnd};
 pub use translation::AccessKind;

@@ -138,11 +138,10 @@ impl Machine {
         self.end_step(outcome)
     }
 
-    /// Steps in user mode, one after another, at most so many, and as long as they retire; the result is how many. It
-    /// ends before that number only where the next step wouldn't retire, which isn't made. Random is lowered by the
-    /// result.
+    /// Steps of the instruction table, one after another, at most so many, and as long as they retire; the result is how
+    /// many. It ends before that number only where the next step of the table wouldn't retire, which isn't made: so it
+    /// ends before an instruction of coprocessor 0. Random is lowered by the result.
     pub fn run(&mut self, frames: &mut Frames, most: u32) -> u32
-        requires user { is_user self.old.cp0 ≡ true }
         ensures machine { record { cpu = self.new.cpu; frames = frames.new } ≡ after_row_steps self.old.cp0 self.old.tlb (record { cpu = self.old.cpu; frames = frames.old }) result }
         ensures retire { RowStepsRetire self.old.cp0 self.old.tlb (record { cpu = self.old.cpu; frames = frames.old }) result }
         ensures most { result ≤ most }

@@ -3,7 +3,6 @@ ghost use Rattle.std.specs.Prelude.{◌≡◌, ◌%◌, ◌<◌, ◌≤◌, Ok, 
 ghost use Rattle.mips_exec.specs.Step.{cpu_after, write_after};
 ghost use Rattle.mips_step.specs.Live.{HasZero, IsSameLive, joined};
 ghost use Rattle.mips_step.specs.WordStep.{has_retired};
-ghost use Rattle.r3k_cp0.specs.Registers.{is_user};
 ghost use Rattle.r3k_machine.specs.Code.{IsCode, has};
 ghost use Rattle.r3k_machine.specs.Memory.{frames_written, row_answers, row_step};
 ghost use Rattle.r3k_machine.specs.Steps.{RowStepsRetire, after_row_steps};
@@ -67,10 +66,9 @@ fn run_page(
     most
 }
 
-/// Steps of a user's program, one after another, at most so many, and as long as they retire; the result is how many.
+/// Steps of the instruction table, one after another, at most so many, and as long as they retire; the result is how many.
 /// The first that would do anything else isn't made.
 pub(crate) fn run_rows(cpu: &mut Cpu, frames: &mut Frames, tlb: &Tlb, cp0: &Cp0, most: u32) -> u32
-    requires { is_user cp0.now ≡ true }
     ensures machine { record { cpu = cpu.new; frames = frames.new } ≡ after_row_steps cp0.now tlb.now (record { cpu = cpu.old; frames = frames.old }) result }
     ensures retire { RowStepsRetire cp0.now tlb.now (record { cpu = cpu.old; frames = frames.old }) result }
     ensures most { result ≤ most }
