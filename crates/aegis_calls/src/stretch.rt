@@ -3,7 +3,7 @@ ghost use Rattle.std.specs.Prelude.{◌≡◌, ◌≤◌, ◌+◌, Some};
 ghost use Rattle.aegis_limits.specs.Limits.{most_ticks};
 ghost use Rattle.world_model.specs.Book.{is_idle_book, running};
 ghost use Rattle.board_model.specs.Stretch.{ArePlain, stretched};
-ghost use Rattle.aegis_calls.specs.QuietTicks.{AreQuietTicks};
+ghost use Rattle.aegis_calls.specs.QuietTicks.{AreQuietTicks, AreSteadyTicks};
 
 use crate::board::Board;
 use board_acts::plain_most;
@@ -31,10 +31,12 @@ impl Board {
 
     /// Ticks in which nothing happens but a step of the runner's that retires, at most so many; the result is how many, and
     /// may be none. It ends before the last tick of the slice, before a deadline, and before a call or an exception, which
-    /// are left to a tick by its parts. It writes no row, and changes no claim.
+    /// are left to a tick by its parts. It writes no row, and changes no claim. No deadline is served in it, no turn taken,
+    /// and nobody sends.
     pub fn stretch(&mut self, most: u32) -> u32
         requires time { self.old.time + most ≤ most_ticks }
         ensures world { AreQuietTicks self.old self.new result }
+        ensures steady { AreSteadyTicks self.old result }
         ensures idle { is_idle_book (world_of self.new).book ≡ is_idle_book (world_of self.old).book }
         ensures most { result ≤ most }
         ensures time { self.new.time ≡ self.old.time + result }

@@ -1,6 +1,6 @@
 -- Plain ticks of a board are ticks of the model.
-use Rattle.std.proofs.Common.{◌≡◌, ◌<◌, ℕ, zero, suc, ◌+◌, ◌-◌, List, [], length, length-set, Bool, false, Option, Some, refl, sym, ◌∙◌, ap, add-zero, arith, rules}
-use Rattle.std.specs.Prelude.{◌&&◌, is_none, map, unwrap_or}
+use Rattle.std.proofs.Common.{◌≡◌, ◌<◌, ◌≤◌, ℕ, zero, suc, ◌+◌, ◌-◌, List, [], length, length-set, Bool, false, Option, Some, refl, sym, ◌∙◌, ap, add-zero, arith, rules}
+use Rattle.std.specs.Prelude.{◌&&◌, is_none, map, slice_get, unwrap_or}
 use Rattle.std.specs.Option.{option_map}
 use Rattle.std.proofs.lemmas.Bool.{ne_eqb}
 use Rattle.mips_exec.specs.Access.{Write}
@@ -22,14 +22,15 @@ use Rattle.world_model.specs.Deadlines.{takings}
 use Rattle.world_model.specs.Event.{Schedule, happen}
 use Rattle.world_model.specs.Tick.{phases_after, served, step, tick_step, timer, turn, turn_when}
 use Rattle.world_model.specs.World.{World, after, run_phases}
-use Rattle.run_model.specs.Run.{next_world}
+use Rattle.run_model.specs.Run.{after_phase, next_world, world_after_ticks}
 use Rattle.run_model.proofs.Phases.{tick_in_parts}
 use Rattle.board_model.specs.Doing.{after_count_down, lookup_of, after_machine_step, step_seen, with_next_time}
 use Rattle.board_model.specs.Laws.{ServingShowsModel, TimerShowsModel}
 use Rattle.board_model.specs.Shown.{Environments, Shown}
-use Rattle.board_model.specs.Showing.{world_of}
+use Rattle.board_model.specs.Showing.{solo_or_absent, world_of}
+use Rattle.board_model.specs.declared.roster.Environment.{Environment}
 use Rattle.board_model.specs.Sound.{HasRunner, SlotsAgree, IsSoundBoard}
-use Rattle.board_model.specs.Stretch.{ArePlain, StretchShowsModel, machine_of, stretched}
+use Rattle.board_model.specs.Stretch.{ArePlain, AreSteady, IsAtStep, IsQuiet, IsSteady, StretchIsSteady, StretchShowsModel, machine_of, stretched}
 use Rattle.board_model.proofs.Phases.{quiet_world}
 use Rattle.board_model.proofs.Repossessing.{nothing_due}
 use Rattle.board_model.proofs.Seen.{runner_runs}
@@ -66,6 +67,28 @@ pub stretch_sound : (b : Shown) (e k : ℕ) → IsSoundBoard b → k < left_of b
 stretch_sound b e k sound some =
     sound_machine (sound_slots _ (passed_manned b.slots b.roster k sound.book some) (sound_frames _ (steps_size (lookup_of b e) (machine_of b) k) (sound_tlb (record b.tlb { random = fallen_times b.tlb.random k }) sound.rows sound)))
 
+-- fewer ticks are plain too
+fewer_plain : (b : Shown) (e k ticks : ℕ) → ArePlain b e ticks → k ≤ ticks → ArePlain b e k
+fewer_plain b e k ticks plain fewer =
+    let left = plain.left in
+    let early = plain.early in
+    record { retire = record { each = λ i less. plain.retire.each i (omega arith) }; left = omega arith; early = omega arith }
+
+-- and nothing happens from outside in them
+fewer_quiet : (schedule : Schedule) (from k ticks : ℕ) → IsQuiet schedule from (from + ticks) → k ≤ ticks → IsQuiet schedule from (from + k)
+fewer_quiet schedule from k ticks quiet fewer = record { nothing = λ t above below. quiet.nothing t above (omega arith) }
+
+-- the runner goes on, and nobody sends
+sent_stays : (b now : Shown) (e : ℕ) (x : Option Environment) → (solo_or_absent now e x).sent ≡ (solo_or_absent b e x).sent
+sent_stays b now e x = search rules
+
+stretch_steady : (b : Shown) (e k : ℕ) → IsSteady (world_of b) (world_of (stretched b e k))
+stretch_steady b e k = record {
+  runner = runs_on k b.slots.runner;
+  count = refl;
+  sent = λ i. sent_stays b (stretched b e k) i (slice_get b.roster.list i);
+}
+
 -- before the next deadline none has come
 not_come : (t : ℕ) (deadline : Option ℕ) → t < unwrap_or deadline 4294967295 → has_come t deadline ≡ false
 not_come t deadline before = search rules
@@ -95,12 +118,19 @@ counts_on : (b now : Shown) (o : Option Runner) → now.slots.runner ≡ o → 1
 counts_on b now o is more = search (rules, ne_eqb)
 
 module _ (serves : ServingShowsModel) (times : TimerShowsModel) where
+  -- where no deadline has come, and somebody runs, nothing comes before the step
+  none_served : (b : Shown) → IsSoundBoard b → is_any_due b.revocations b.time ≡ false → world_of b ≡ served (world_of b)
+  none_served b sound none = ap world_of (nothing_due b none) ∙ serves b sound
+
+  at_step : (b : Shown) (e : ℕ) → HasRunner b e → is_any_due b.revocations b.time ≡ false → IsAtStep (world_of b)
+  at_step b e has none =
+      ap (λ u. after_phase turn u) (sym (none_served b has.sound none)) ∙ still (world_of b) b.slots.runner e has.runs
+
   plain_tick : (b : Shown) (e : ℕ) → HasRunner b e → outcome_of (step_seen b e) ≡ outcome.Retired → 1 < left_of b.slots.runner → is_any_due b.revocations b.time ≡ false → world_of (stretched b e 1) ≡ tick_step (world_of b)
   plain_tick b e has retired more none =
       let w = world_of b in
       let st = step_seen b e in
       let now = after_machine_step b e st in
-      let none_served : w ≡ served w = ap world_of (nothing_due b none) ∙ serves b has.sound in
       let none_turned : w ≡ after w (turn w) = sym (still w b.slots.runner e has.runs) in
       let size : length now.frames ≡ length b.frames = step_size b.frames (lookup_of b e) (write_after st) in
       let after_sound : IsSoundBoard now = sound_machine (sound_frames now.frames size has.sound) in
@@ -108,7 +138,7 @@ module _ (serves : ServingShowsModel) (times : TimerShowsModel) where
       ∙ times now after_sound
       ∙ ap (λ u. after u (timer u)) (stepped b e has.sound has.runs retired)
       ∙ ap (λ u. let t = after u (step u) in after t (timer t)) none_turned
-      ∙ ap (λ v. let u = after v (turn v) in let t = after u (step u) in after t (timer t)) none_served
+      ∙ ap (λ v. let u = after v (turn v) in let t = after u (step u) in after t (timer t)) (none_served b has.sound none)
       ∙ sym (tick_in_parts w)
 
   -- a tick of a run in which nothing happens from outside
@@ -124,9 +154,28 @@ module _ (serves : ServingShowsModel) (times : TimerShowsModel) where
       let soon = plain.early in
       let later : b.time + suc k ≡ b.time + k + 1 = omega arith in
       let once : stretched b e (suc k) ≡ stretched v e 1 = (λ i. record (stretched b e (suc k)) { slots = record b.slots { runner = one_passed k b.slots.runner i }; time = later i }) in
-      let fewer : ArePlain b e k = record { retire = record { each = λ i less. plain.retire.each i (omega arith) }; left = omega arith; early = omega arith } in
+      let fewer = fewer_plain b e k (suc k) plain (omega arith) in
       let goes = runs_on k b.slots.runner ∙ has.runs in
       ap world_of once
       ∙ plain_tick v e (record { sound = stretch_sound b e k has.sound (omega arith); runs = goes }) (plain.retire.each k (omega arith)) (omega (arith, left_on k b.slots.runner)) (none_due b.revocations (b.time + k) (omega arith))
       ∙ quiet_tick schedule (world_of v) (busy v.slots.runner _ e goes) (quiet.nothing (b.time + k) (omega arith) (omega arith))
       ∙ ap (next_world schedule) (stretch_ticks b e k schedule has fewer (record { nothing = λ t from until. quiet.nothing t from (omega arith) }))
+
+  pub stretch_is_steady : StretchIsSteady
+  stretch_is_steady b e ticks schedule has plain quiet = record {
+    at_step = λ k fewer.
+        let v = stretched b e k in
+        let left = plain.left in
+        let early = plain.early in
+        let at = stretch_ticks b e k schedule has (fewer_plain b e k ticks plain (omega arith)) (fewer_quiet schedule b.time k ticks quiet (omega arith)) in
+        let first = at_step v e (record { sound = stretch_sound b e k has.sound (omega arith); runs = runs_on k b.slots.runner ∙ has.runs }) (none_due b.revocations (b.time + k) (omega arith)) in
+        ap (λ (w : World). after_phase turn (served w)) (sym at) ∙ first ∙ at;
+    stays = λ k fewer.
+        let at = stretch_ticks b e k schedule has (fewer_plain b e k ticks plain fewer) (fewer_quiet schedule b.time k ticks quiet fewer) in
+        let steady = stretch_steady b e k in
+        record {
+          runner = ap (λ (w : World). running w.book.runner) (sym at) ∙ steady.runner;
+          count = ap (λ (w : World). w.count) (sym at) ∙ steady.count;
+          sent = λ i. ap (λ (w : World). (w.solos i).sent) (sym at) ∙ steady.sent i;
+        };
+  }

@@ -4,8 +4,11 @@ use Rattle.guest_memory.specs.Steps.{AllRetire, Machine, after_steps}
 use Rattle.revocation_book.specs.RevocationBook.{next_deadline}
 use Rattle.r3k_cp0.specs.Random.{fallen_times}
 use Rattle.slot_vector.specs.Slices.{after_ticks, left_of}
+use Rattle.world_model.specs.Book.{running}
 use Rattle.world_model.specs.Event.{Schedule}
-use Rattle.run_model.specs.Run.{world_after_ticks}
+use Rattle.world_model.specs.Tick.{served, turn}
+use Rattle.world_model.specs.World.{World}
+use Rattle.run_model.specs.Run.{after_phase, world_after_ticks}
 use Rattle.board_model.specs.Doing.{lookup_of}
 use Rattle.board_model.specs.Shown.{Shown}
 use Rattle.board_model.specs.Showing.{world_of}
@@ -41,3 +44,27 @@ StretchShowsModel =
     (b : Shown) (e ticks : ℕ) (schedule : Schedule) → HasRunner b e → ArePlain b e ticks
     → IsQuiet schedule b.time (b.time + ticks)
     → world_of (stretched b e ticks) ≡ world_after_ticks schedule (world_of b) ticks
+
+-- ---- what stays in a stretch
+
+-- No deadline has come, and somebody runs: where nothing happens from outside, the world at the step of its next tick is
+-- the world before the tick.
+abbrev pub IsAtStep : World → Type 0
+IsAtStep w = after_phase turn (served w) ≡ w
+
+-- a later world has the same runner, and nobody has sent anything
+pub record IsSteady (w later : World) : Type 0 where
+  pub runner : running later.book.runner ≡ running w.book.runner
+  pub count : later.count ≡ w.count
+  pub sent : (e : ℕ) → (later.solos e).sent ≡ (w.solos e).sent
+
+-- In so many ticks of a run from this board on nothing happens but steps of one environment, none of which sends.
+pub record AreSteady (b : Shown) (schedule : Schedule) (ticks : ℕ) : Type 0 where
+  pub at_step : (k : ℕ) → k < ticks → IsAtStep (world_after_ticks schedule (world_of b) k)
+  pub stays : (k : ℕ) → k ≤ ticks → IsSteady (world_of b) (world_after_ticks schedule (world_of b) k)
+
+-- So it is in plain ticks of a sound board in which nothing happens from outside.
+abbrev pub StretchIsSteady : Type 0
+StretchIsSteady =
+    (b : Shown) (e ticks : ℕ) (schedule : Schedule) → HasRunner b e → ArePlain b e ticks
+    → IsQuiet schedule b.time (b.time + ticks) → AreSteady b schedule ticks

@@ -1,6 +1,6 @@
 //! The laws of what a board shows: each part of a tick is that part of the model's.
 ghost use Rattle.board_model.specs.Laws.{AgainShowsModel, CallShowsModel, DeathShowsModel, EventShowsModel, IdleShowsModel, RefusalShowsModel, ServingShowsModel, StepShowsModel, TimerShowsModel, TurnShowsModel};
-ghost use Rattle.board_model.specs.Stretch.{StretchShowsModel};
+ghost use Rattle.board_model.specs.Stretch.{StretchIsSteady, StretchShowsModel};
 
 use call_verdicts::{law_again, law_granted};
 use filter_tree::law_numbered;
@@ -44,9 +44,11 @@ pub fn law_timer()
     ensures { TimerShowsModel }
 {}
 
-/// In a run in which nothing happens from outside during them, plain ticks are ticks of the model.
+/// In a run in which nothing happens from outside during them, plain ticks are ticks of the model, and the runner and what
+/// was sent stay.
 pub fn law_stretch()
-    ensures { StretchShowsModel }
+    ensures world { StretchShowsModel }
+    ensures steady { StretchIsSteady }
 {
     law_serving();
     law_timer();

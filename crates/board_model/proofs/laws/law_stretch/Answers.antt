@@ -1,5 +1,8 @@
-use Rattle.board_model.proofs.Stretching.{stretch_ticks}
+use Rattle.board_model.proofs.Stretching.{stretch_is_steady, stretch_ticks}
 use Rattle.board_model.proofs.laws.law_stretch.Goals as goal
 
-pub returns : goal.returns
-returns c = stretch_ticks c.law_serving.ensures c.law_timer.ensures
+pub returns-clause-world : goal.returns-clause-world
+returns-clause-world c = stretch_ticks c.law_serving.ensures c.law_timer.ensures
+
+pub returns-clause-steady : goal.returns-clause-steady
+returns-clause-steady c = stretch_is_steady c.law_serving.ensures c.law_timer.ensures
