@@ -12,7 +12,8 @@ use Rattle.wire_model.specs.Limits.{most_machines}
 use Rattle.wire_model.specs.Wire.{joined}
 use Rattle.commands.specs.Command.{content}
 use Rattle.commands.specs.Due.{Due, unless_refused}
-use Rattle.aegis_command.specs.Pairs.{AreSound, IsMachine}
+use Rattle.aegis_command.specs.Pairs.{IsMachine}
+use Rattle.aegis_command.specs.SystemFiles.{AreSound}
 use Rattle.aegis_command.specs.RunImage.{image_refused, schedule_refused}
 use Rattle.aegis_command.specs.WireMachines.{are_pairs, refusals}
 

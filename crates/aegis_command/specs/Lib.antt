@@ -1,4 +1,5 @@
 pub mod RunImage
+pub mod SystemFiles
 pub mod LoadSeed
 pub mod AuditLedger
 pub mod TraceEnv

@@ -1,5 +1,5 @@
 -- The pairs of an image and a schedule that are read as machines.
-use Rattle.std.specs.Prelude.{◌≡◌, ℕ, ◌+◌, ◌*◌, ◌/◌, ◌<◌, List, ◌∷◌, Option, None, Vec, get_or, length, true}
+use Rattle.std.specs.Prelude.{◌≡◌, ℕ, ◌+◌, ◌*◌, ◌/◌, ◌<◌, List, [], ◌∷◌, Option, Vec, get_or, length, true}
 use Rattle.std.specs.Global.{Global}
 use Rattle.boot_image.specs.ImageFaults.{image_fault}
 use Rattle.boot_image.specs.ImageValue.{image_of}
@@ -14,6 +14,7 @@ use Rattle.commands.specs.Command.{content}
 use Rattle.commands.specs.Due.{Due, unless_refused}
 use Rattle.commands.specs.Work.{Settles}
 use Rattle.aegis_command.specs.RunImage.{image_refused, schedule_refused}
+use Rattle.aegis_command.specs.SystemFiles.{AreSound}
 use Rattle.aegis_command.specs.WireMachines.{refusals}
 use Rattle.aegis_command.specs.declared.wire_machines.Pair.{Pair}
 use Rattle.aegis_command.specs.declared.wire_machines.Pair.TheVariants as pair
@@ -27,11 +28,6 @@ pub record IsMachine (program plan : List ℕ) (b : Shown) (list : List EventVal
   pub events : list ≡ events_of plan
   pub ordered : are_in_order 0 list ≡ true
 
--- neither of two files has a fault
-pub record AreSound (program plan : List ℕ) : Type 0 where
-  pub image : image_fault program ≡ None
-  pub schedule : schedule_fault plan ≡ None
-
 -- two files are a machine, or the first that has a fault is refused, whatever else is due
 abbrev pub IsPair : (image_name schedule_name image schedule : List ℕ) → Pair → Type 0
 IsPair image_name schedule_name image schedule (pair.Refused answer) =
@@ -40,6 +36,11 @@ IsPair image_name schedule_name image schedule (pair.Refused answer) =
     (schedule_fault schedule) ∷ others) due) answer
 IsPair image_name schedule_name image schedule (pair.Sound board events) =
     AreSound image schedule × IsMachine image schedule board events.items
+
+-- so it is with the pair of this number
+abbrev pub IsPairAt : (names contents : List (List ℕ)) → ℕ → Pair → Type 0
+IsPairAt names contents i =
+    IsPair (get_or names (2 * i) []) (get_or names (2 * i + 1) []) (content contents (2 * i)) (content contents (2 * i + 1))
 
 -- each pair of files is a machine
 pub record AreMachines (contents : List (List ℕ)) (boards : List Shown) (schedules : List (Vec EventValue Global)) : Type 0 where

@@ -10,6 +10,7 @@ mod load_seed;
 mod quantum;
 mod run_bare;
 mod run_image;
+mod system_files;
 mod ticks;
 mod top;
 mod trace_env;

@@ -4,14 +4,13 @@ ghost use Rattle.external_event.specs.Order.{are_in_order};
 ghost use Rattle.commands.specs.Work.{Settles};
 ghost use Rattle.aegis_command.specs.RunImage.{report_after as report_text_after, run_due, run_image, run_words};
 
+use crate::system_files::{SystemFiles, read_system};
 use crate::ticks::Ticks;
 use aegis_limits::OutOfMemory;
 use aegis_tick::{boot, run};
-use boot_image::{Image, read_image};
-use boot_schedule::{law_in_order, read_schedule};
+use boot_image::Image;
 use commands::{Answer, Command, Status, content};
 use external_event::Event;
-use line_text::Failure;
 use run_report::report;
 use std::alloc::Global;
 
@@ -71,26 +70,13 @@ fn due(
     requires schedule { length schedule.now < 2 ^ 27 }
     ensures { IfOk result (Settles (run_due call.entry.image.now call.entry.schedule.now call.entry.ticks.number image.now schedule.now)) }
 {
-    law_in_order();
-    let image = match read_image(alloc, image) {
-        Ok(image) => image,
-        Err(Failure::Fault(fault)) => {
-            return Answer::refusal(alloc, call.image, fault.why.name(), fault.place);
-        }
-        Err(Failure::OutOfMemory) => return Err(OutOfMemory),
-    };
-    let events = match read_schedule(alloc, schedule) {
-        Ok(events) => events,
-        Err(Failure::Fault(fault)) => {
-            return Answer::refusal(alloc, call.schedule, fault.why.name(), fault.line);
-        }
-        Err(Failure::OutOfMemory) => return Err(OutOfMemory),
-    };
-    let text = report_after(alloc, &image, &events, call.ticks)?;
-    Ok(Answer {
-        text,
-        status: Status::Done,
-    })
+    match read_system(alloc, call.image, call.schedule, image, schedule)? {
+        SystemFiles::Refused(answer) => Ok(answer),
+        SystemFiles::Sound(image, events) => Ok(Answer {
+            text: report_after(alloc, &image, &events, call.ticks)?,
+            status: Status::Done,
+        }),
+    }
 }
 
 impl Command for RunImage<'_> {

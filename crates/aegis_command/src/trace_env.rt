@@ -3,12 +3,11 @@ ghost use Rattle.std.specs.Prelude.{◌≡◌, ◌<◌, ◌^◌, IfOk, length, m
 ghost use Rattle.commands.specs.Work.{Settles};
 ghost use Rattle.aegis_command.specs.TraceEnv.{env_of, trace_due, trace_env, trace_words};
 
+use crate::system_files::{SystemFiles, read_system};
 use crate::traced_ticks::TracedTicks;
 use aegis_limits::{ENVIRONMENT_NUMBERS, OutOfMemory};
-use boot_image::read_image;
-use boot_schedule::{law_in_order, read_schedule};
 use commands::{Answer, Command, Status, content};
-use line_text::{Failure, decimal};
+use line_text::decimal;
 use std::alloc::Global;
 use trace_view::trace;
 
@@ -68,26 +67,13 @@ fn due(
     requires schedule { length schedule.now < 2 ^ 27 }
     ensures { IfOk result (Settles (trace_due call.entry.image.now call.entry.schedule.now call.entry.ticks.number call.entry.env image.now schedule.now)) }
 {
-    law_in_order();
-    let image = match read_image(alloc, image) {
-        Ok(image) => image,
-        Err(Failure::Fault(fault)) => {
-            return Answer::refusal(alloc, call.image, fault.why.name(), fault.place);
-        }
-        Err(Failure::OutOfMemory) => return Err(OutOfMemory),
-    };
-    let events = match read_schedule(alloc, schedule) {
-        Ok(events) => events,
-        Err(Failure::Fault(fault)) => {
-            return Answer::refusal(alloc, call.schedule, fault.why.name(), fault.line);
-        }
-        Err(Failure::OutOfMemory) => return Err(OutOfMemory),
-    };
-    let text = trace(alloc, &image, &events, call.ticks.number, call.env)?;
-    Ok(Answer {
-        text,
-        status: Status::Done,
-    })
+    match read_system(alloc, call.image, call.schedule, image, schedule)? {
+        SystemFiles::Refused(answer) => Ok(answer),
+        SystemFiles::Sound(image, events) => Ok(Answer {
+            text: trace(alloc, &image, &events, call.ticks.number, call.env)?,
+            status: Status::Done,
+        }),
+    }
 }
 
 impl Command for TraceEnv<'_> {

@@ -6,19 +6,18 @@ ghost use Rattle.board_model.specs.Showing.{world_of};
 ghost use Rattle.edge_io.specs.Reads.{held};
 ghost use Rattle.run_model.specs.Run.{end_of_run};
 ghost use Rattle.wire_model.specs.Limits.{most_delay, most_wire_ticks};
-ghost use Rattle.commands.specs.Command.{IsShort, content as content_at};
-ghost use Rattle.aegis_command.specs.Pairs.{ArePairs, IsPair};
+ghost use Rattle.commands.specs.Command.{IsShort};
+ghost use Rattle.aegis_command.specs.Pairs.{ArePairs, IsPair, IsPairAt};
 ghost use Rattle.aegis_command.specs.WireMachines.{are_pairs, delay_of, machine_report, reports_text, wire_machines, wire_ticks_of, wire_words};
 
+use crate::system_files::{SystemFiles, read_system};
 use aegis_calls::Board;
 use aegis_limits::OutOfMemory;
 use aegis_tick::boot;
-use boot_image::read_image;
-use boot_schedule::{law_in_order, read_schedule};
 use commands::{Answer, Command, Status, content};
 use external_event::Event;
 use kernel_journal::RunEnd;
-use line_text::{Failure, Word, decimal, push_line};
+use line_text::{Word, decimal, push_line};
 use run_report::report;
 use std::alloc::Global;
 use wire_model::{MOST_DELAY, MOST_MACHINES, MOST_WIRE_TICKS};
@@ -136,25 +135,10 @@ fn pair_of(
     requires schedule { length schedule.now < 2 ^ 27 }
     ensures { IfOk result (IsPair image_name.now schedule_name.now image.now schedule.now) }
 {
-    law_in_order();
-    let image = match read_image(alloc, image) {
-        Ok(image) => image,
-        Err(Failure::Fault(fault)) => {
-            let answer = Answer::refusal(alloc, image_name, fault.why.name(), fault.place)?;
-            return Ok(Pair::Refused(answer));
-        }
-        Err(Failure::OutOfMemory) => return Err(OutOfMemory),
-    };
-    let events = match read_schedule(alloc, schedule) {
-        Ok(events) => events,
-        Err(Failure::Fault(fault)) => {
-            let answer = Answer::refusal(alloc, schedule_name, fault.why.name(), fault.line)?;
-            return Ok(Pair::Refused(answer));
-        }
-        Err(Failure::OutOfMemory) => return Err(OutOfMemory),
-    };
-    let board = boot(alloc, &image)?;
-    Ok(Pair::Sound(board, events))
+    match read_system(alloc, image_name, schedule_name, image, schedule)? {
+        SystemFiles::Refused(answer) => Ok(Pair::Refused(answer)),
+        SystemFiles::Sound(image, events) => Ok(Pair::Sound(boot(alloc, &image)?, events)),
+    }
 }
 
 /// The name at a place.
@@ -175,7 +159,7 @@ fn pair_at(
     requires count { length contents.now ≡ length names.now }
     requires within { 2 * pair + 1 < length names.now }
     requires short { AllByRecursion IsShort (held contents.now) }
-    ensures { IfOk result (IsPair (get_or (map string_bytes names.now) (2 * pair) []) (get_or (map string_bytes names.now) (2 * pair + 1) []) (content_at (held contents.now) (2 * pair)) (content_at (held contents.now) (2 * pair + 1))) }
+    ensures { IfOk result (IsPairAt (map string_bytes names.now) (held contents.now) pair) }
 {
     let first = 2 * pair;
     pair_of(
