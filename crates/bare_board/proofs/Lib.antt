@@ -1,3 +1,4 @@
 mod Filling
 mod Lines
+mod Stretches
 mod Ticks

@@ -1,15 +1,16 @@
 //! The bare board, and its ticks.
-ghost use Rattle.std.specs.Prelude.{◌≡◌, length, IfOk};
+ghost use Rattle.std.specs.Prelude.{◌≡◌, ◌+◌, ◌<◌, ◌≤◌, ℕ, true, false, length, IfOk};
 ghost use Rattle.r3k_cp0.specs.Registers.{is_user, takes_interrupts};
 ghost use Rattle.bare_board.specs.Loading.{bare_pages};
 ghost use Rattle.bare_board.specs.Run.{run_after};
+ghost use Rattle.bare_board.specs.Stretch.{AreCalm, IsPlain, TicksLead};
 ghost use Rattle.bare_board.specs.Tick.{acted, after_interrupt, after_step, board_of, is_due, is_interrupted, ticked, with_due};
 
 use crate::loading::load;
 use aegis_limits::OutOfMemory;
 use frame_store::Frames;
 use mips_exec::{Exc, ExcCode};
-use r3k_machine::{Machine, MachineEnd};
+use r3k_machine::{Machine, MachineEnd, law_retired_steps};
 use std::alloc::Global;
 
 /// The address of the first instruction.
@@ -126,15 +127,45 @@ impl Board {
         self.act()
     }
 
-    /// Runs for at most so many ticks, with interrupts by this period; the ticks done before it halted, if it did.
+    /// How many ticks from the tick of this number on, at most so many, are calm: no interrupt becomes pending in them,
+    /// and none is taken.
+    fn calm_ticks(&self, period: u32, t: u32, most: u32) -> u32
+        ensures calm { AreCalm period t self.now result }
+        ensures next { is_interrupted self.now ≡ false → result < most → is_due period (t + result) ≡ true }
+        ensures most { result ≤ most }
+    {
+        if self.is_interrupted() {
+            return 0;
+        }
+        ticks_before_due(period, t, most)
+    }
+
+    /// Plain ticks from the tick of this number on, at most so many, in one call of the machine; the result is how many,
+    /// and may be none. It ends before that number only where the next tick isn't plain.
+    fn stretch(&mut self, period: u32, t: u32, most: u32) -> u32
+        ensures lead { TicksLead period t self.old self.new result }
+        ensures stop { IsPlain period (t + result) self.new → most ≤ result }
+        ensures most { result ≤ most }
+        ensures size { length self.new.frames ≡ length self.old.frames }
+    {
+        law_retired_steps();
+        let calm = self.calm_ticks(period, t, most);
+        self.machine.run(&mut self.frames, calm)
+    }
+
+    /// Runs for at most so many ticks, with interrupts by this period; the ticks done before it halted, if it did. A
+    /// tick is made by its parts, and the plain ticks behind it in one stretch.
     pub(crate) fn run(&mut self, ticks: u32, period: u32) -> Option<u32>
         ensures run { record { board = self.new; halt = result } ≡ run_after period self.old ticks }
         ensures size { length self.new.frames ≡ length self.old.frames }
     {
-        for t in 0..ticks {
+        let mut t = 0;
+        while t < ticks {
             if self.tick(period, t) {
                 return Some(t);
             }
+            t += 1;
+            t += self.stretch(period, t, ticks - t);
         }
         None
     }
@@ -145,4 +176,20 @@ fn is_due(period: u32, t: u32) -> bool
     ensures { result ≡ is_due period t }
 {
     period > 0 && t > 0 && t % period == 0
+}
+
+/// How many ticks from the tick of this number on, at most so many, have no interrupt that becomes pending. It is fewer
+/// only where the next tick has one.
+fn ticks_before_due(period: u32, t: u32, most: u32) -> u32
+    ensures none { (k : ℕ) → k < result → is_due period (t + k) ≡ false }
+    ensures next { result < most → is_due period (t + result) ≡ true }
+    ensures most { result ≤ most }
+{
+    if period == 0 {
+        most
+    } else if is_due(period, t) {
+        0
+    } else {
+        most.min(period - t % period)
+    }
 }
