@@ -1,5 +1,6 @@
 -- The step of a word that was fetched: the answer to its load or store, its write, and whether it retires.
-use Rattle.std.specs.Prelude.{◌≡◌, ℕ, Bool, true, false, Option, Some, None, Result, Ok, Err}
+use Rattle.std.specs.Prelude.{◌≡◌, ℕ, ◌==◌, ◌||◌, Bool, true, false, Option, Some, None, Result, Ok, Err}
+use Rattle.mips_isa.specs.Encoding.{insn_of}
 use Rattle.mips_isa.specs.Fields.{opcode_of}
 use Rattle.mips_exec.specs.declared.registers.Cpu.{Cpu}
 use Rattle.mips_exec.specs.declared.reach.Access.{Access}
@@ -8,7 +9,8 @@ use Rattle.mips_exec.specs.declared.exception.Outcome.{Outcome}
 use Rattle.mips_exec.specs.declared.exception.Outcome.TheVariants as outcome
 use Rattle.mips_exec.specs.declared.change.Change.{Change}
 use Rattle.mips_exec.specs.Exception.{at_address}
-use Rattle.mips_exec.specs.Access.{Write, write_of}
+use Rattle.mips_exec.specs.Access.{Write, access, write_of}
+use Rattle.mips_exec.specs.Effect.{effect}
 use Rattle.mips_exec.specs.Step.{Answers, Step, Retired, Called, Trapped, access_after, answered, decoded, ended, named_by}
 
 -- an exception gets the address that the instruction names
@@ -45,6 +47,22 @@ abbrev pub has_retired : Step → Bool
 has_retired (Retired cpu write) = true
 has_retired Called = false
 has_retired (Trapped exc) = false
+
+-- ---- words that ask no memory, and those that move a word
+
+-- the step of a word that neither loads nor stores
+abbrev pub plain_step : Cpu → ℕ → Step
+plain_step cpu word = ended cpu (effect (insn_of word) cpu 0) None
+
+-- so it is over any memory
+abbrev pub PlainWordsAreSteps : Type 0
+PlainWordsAreSteps =
+    (answers : Answers) (cpu : Cpu) (word : ℕ) → access (insn_of word) cpu ≡ None
+    → fetched_step answers cpu word ≡ plain_step cpu word
+
+-- LW or SW
+abbrev pub moves_word : ℕ → Bool
+moves_word word = opcode_of word == 35 || opcode_of word == 43
 
 -- The instruction table has no word of coprocessor 0's opcode that retires.
 abbrev pub SystemWordsTrap : Type 0

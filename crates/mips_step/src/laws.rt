@@ -1,6 +1,6 @@
 //! The laws of steps.
 ghost use Rattle.mips_exec.specs.Kept.{StepsAreSound};
-ghost use Rattle.mips_step.specs.WordStep.{SystemWordsTrap};
+ghost use Rattle.mips_step.specs.WordStep.{PlainWordsAreSteps, SystemWordsTrap};
 
 /// In each step words stay words, and what is written is 1 to 4 bytes of one aligned word, where memory
 /// takes them (`docs/MACHINE.md`, "Effect").
@@ -12,4 +12,9 @@ pub fn steps_are_sound()
 /// (`docs/MACHINE.md`, "Effect").
 pub fn law_system_words_trap()
     ensures { SystemWordsTrap }
+{}
+
+/// The step of a word that neither loads nor stores asks no memory.
+pub fn law_plain_words()
+    ensures { PlainWordsAreSteps }
 {}

@@ -1,11 +1,11 @@
 //! What each word does that loads or stores (`docs/MACHINE.md`, "Effect"): a match on the opcode, in the order of the table
 //! of the encoding.
-ghost use Rattle.std.specs.Prelude.{◌≡◌, ◌≤◌, ◌^◌};
+ghost use Rattle.std.specs.Prelude.{◌≡◌, ◌≤◌, ◌^◌, true};
 ghost use Rattle.mips_isa.specs.Encoding.{insn_of};
 ghost use Rattle.mips_exec.specs.Access.{access};
 ghost use Rattle.mips_exec.specs.Step.{Wrote, write_after};
 ghost use Rattle.mips_step.specs.Live.{HasZero, joined};
-ghost use Rattle.mips_step.specs.WordStep.{fetched_step, step_of_change};
+ghost use Rattle.mips_step.specs.WordStep.{fetched_step, moves_word, step_of_change};
 
 use crate::arithmetic::{extend_byte, extend_half};
 use crate::live::Live;
@@ -14,9 +14,44 @@ use crate::table::{rs_value, rt_value, signed_imm};
 use mips_codec::{merge_left, merge_right, opcode, rt};
 use mips_exec::{Change, Exc, ExcCode, Spot};
 
-/// The change of a word from 2^31 on, once memory has answered its load or store, or what the access raises.
+/// The opcode of LW.
+const LOAD_WORD: u8 = 35;
+
+/// The opcode of SW.
+const STORE_WORD: u8 = 43;
+
+/// Whether the word loads or stores a whole aligned word: LW or SW.
+#[inline(always)]
+pub fn moves_word(word: u32) -> bool
+    ensures { result ≡ moves_word word }
+{
+    opcode(word) == LOAD_WORD || opcode(word) == STORE_WORD
+}
+
+/// The change of LW or SW, once memory has answered, or what the access raises.
 #[tactic(auto, unfolding(mips_isa::specs::Encoding::insn_of, mips_exec::specs::Effect::effect, mips_exec::specs::Access::access))]
 #[inline(always)]
+pub(crate) fn change_after_word<B: Bus>(
+    live: &Live<'_>,
+    bus: &mut B,
+    word: u32,
+) -> Result<Change, Exc>
+    requires word { moves_word word ≡ true }
+    requires zero { HasZero live.now }
+    ensures step { step_of_change (joined live.now) (access (insn_of word) (joined live.now)) result ≡ fetched_step (B.answers bus.old) (joined live.now) word }
+    ensures memory { Wrote B.Kept B.Stored bus.old (write_after (fetched_step (B.answers bus.old) (joined live.now) word)) bus.new }
+{
+    let spot = Spot::at(rs_value(live, word).wrapping_add(signed_imm(word)), 4);
+    if opcode(word) == LOAD_WORD {
+        return Ok(Change::Puts(rt(word), load(bus, spot)?));
+    }
+    store(bus, spot, rt_value(live, word))?;
+    Ok(Change::Passes)
+}
+
+/// The change of a word from 2^31 on, once memory has answered its load or store, or what the access raises.
+#[tactic(auto, unfolding(mips_isa::specs::Encoding::insn_of, mips_exec::specs::Effect::effect, mips_exec::specs::Access::access))]
+#[inline(never)]
 pub(crate) fn change_after_access<B: Bus>(
     live: &Live<'_>,
     bus: &mut B,

@@ -1,15 +1,15 @@
 //! One step of a user program.
-ghost use Rattle.std.specs.Prelude.{◌≡◌};
+ghost use Rattle.std.specs.Prelude.{◌≡◌, ◌<◌, ◌≤◌, ◌^◌, None, true};
 ghost use Rattle.mips_isa.specs.Encoding.{insn_of};
 ghost use Rattle.mips_exec.specs.Access.{access};
 ghost use Rattle.mips_exec.specs.Step.{cpu_after, outcome_of, step_of, view_of, write_after, Wrote};
 ghost use Rattle.mips_step.specs.Live.{HasZero, IsSameLive, joined};
-ghost use Rattle.mips_step.specs.WordStep.{fetched_step, has_retired, step_of_change};
+ghost use Rattle.mips_step.specs.WordStep.{fetched_step, has_retired, moves_word, plain_step, step_of_change};
 
 use crate::change::{apply, retire};
 use crate::live::Live;
 use crate::memory::Bus;
-use crate::memory_table::change_after_access;
+use crate::memory_table::{change_after_access, change_after_word};
 use crate::table::change_without_access;
 use mips_exec::{Change, Cpu, Exc, ExcCode, Outcome};
 
@@ -47,20 +47,52 @@ fn step_live<B: Bus>(live: &mut Live<'_>, bus: &mut B, word: u32) -> Outcome
     }
 }
 
-/// The same, of which only is told whether it retires, for a loop of steps.
+/// The step of a word below 2^31, of which only is told whether it retires, for a loop of steps. It asks no memory.
 #[tactic(auto, using(crate::proofs::Ended::cpu_ended, crate::proofs::Ended::retired_ended))]
 #[inline(always)]
-pub fn retire_live<B: Bus>(live: &mut Live<'_>, bus: &mut B, word: u32) -> bool
+pub fn retire_plain(live: &mut Live<'_>, word: u32) -> bool
     requires zero { HasZero live.old }
+    requires word { word < 2 ^ 31 }
+    ensures same { IsSameLive live.old live.new }
+    ensures zero { HasZero live.new }
+    ensures cpu { joined live.new ≡ cpu_after (joined live.old) (plain_step (joined live.old) word) }
+    ensures retired { result ≡ has_retired (plain_step (joined live.old) word) }
+    ensures plain { access (insn_of word) (joined live.old) ≡ None }
+{
+    let change = change_without_access(live, word);
+    retire(live, change)
+}
+
+/// The same of LW or SW, which most accesses are.
+#[tactic(auto, using(crate::proofs::Ended::cpu_ended, crate::proofs::Ended::retired_ended))]
+#[inline(always)]
+pub fn retire_word_access<B: Bus>(live: &mut Live<'_>, bus: &mut B, word: u32) -> bool
+    requires zero { HasZero live.old }
+    requires word { moves_word word ≡ true }
     ensures same { IsSameLive live.old live.new }
     ensures zero { HasZero live.new }
     ensures cpu { joined live.new ≡ cpu_after (joined live.old) (fetched_step (B.answers bus.old) (joined live.old) word) }
     ensures retired { result ≡ has_retired (fetched_step (B.answers bus.old) (joined live.old) word) }
     ensures memory { Wrote B.Kept B.Stored bus.old (write_after (fetched_step (B.answers bus.old) (joined live.old) word)) bus.new }
 {
-    if word < ACCESSES {
-        return retire(live, change_without_access(live, word));
+    match change_after_word(live, bus, word) {
+        Ok(change) => retire(live, change),
+        Err(_) => false,
     }
+}
+
+/// The same of any word from 2^31 on.
+#[tactic(auto, using(crate::proofs::Ended::cpu_ended, crate::proofs::Ended::retired_ended))]
+#[inline(always)]
+pub fn retire_access<B: Bus>(live: &mut Live<'_>, bus: &mut B, word: u32) -> bool
+    requires zero { HasZero live.old }
+    requires word { 2 ^ 31 ≤ word }
+    ensures same { IsSameLive live.old live.new }
+    ensures zero { HasZero live.new }
+    ensures cpu { joined live.new ≡ cpu_after (joined live.old) (fetched_step (B.answers bus.old) (joined live.old) word) }
+    ensures retired { result ≡ has_retired (fetched_step (B.answers bus.old) (joined live.old) word) }
+    ensures memory { Wrote B.Kept B.Stored bus.old (write_after (fetched_step (B.answers bus.old) (joined live.old) word)) bus.new }
+{
     match change_after_access(live, bus, word) {
         Ok(change) => retire(live, change),
         Err(_) => false,

@@ -1,9 +1,12 @@
 -- What a step leaves of memory.
-use Rattle.std.proofs.Common.{◌≡◌, ◌%◌, refl, ap, sym, List, ℕ, length, Option, Some, None, Ok, false, rules, length-set}
-use Rattle.mips_exec.specs.Access.{Write}
+use Rattle.std.proofs.Common.{◌≡◌, ◌%◌, ◌∙◌, refl, ap, sym, List, ℕ, length, Option, Some, None, Ok, false, rules, length-set}
+use Rattle.mips_isa.specs.Encoding.{insn_of}
+use Rattle.mips_exec.specs.Access.{Write, access}
+use Rattle.mips_exec.specs.declared.change.Change.{Change}
+use Rattle.mips_exec.specs.Effect.{effect}
 use Rattle.mips_exec.specs.declared.registers.Cpu.{Cpu}
-use Rattle.mips_exec.specs.Step.{Step, Wrote, access_after, cpu_after, decoded, fetched, write_after}
-use Rattle.mips_step.specs.WordStep.{fetched_step, has_retired}
+use Rattle.mips_exec.specs.Step.{Step, Wrote, access_after, cpu_after, decoded, ended, fetched, write_after}
+use Rattle.mips_step.specs.WordStep.{PlainWordsAreSteps, fetched_step, has_retired, plain_step}
 use Rattle.r3k_tlb.specs.declared.row.Row.{Row}
 use Rattle.r3k_cp0.specs.declared.registers.Cp0.{Cp0}
 use Rattle.r3k_machine.specs.declared.bus.RowBus.{RowBus}
@@ -32,6 +35,19 @@ fetched_is cp0 rows frames cpu word aligned answer =
     let answers = row_answers cp0 rows frames in
     let e : fetched answers cpu.pc ≡ Ok word = search rules in
     sym (ap (λ r. decoded cpu r (access_after answers cpu r)) e)
+
+-- a step of a word that neither loads nor stores leaves memory
+no_write : (cpu : Cpu) (change : Change) → write_after (ended cpu change None) ≡ None
+no_write cpu change = search rules
+
+pub plain_step_writes_nothing : (cp0 : Cp0) (rows : List Row) (frames : List (List ℕ)) (cpu : Cpu) (word : ℕ) → PlainWordsAreSteps
+    → cpu.pc % 4 ≡ 0 → (row_answers cp0 rows frames).fetch cpu.pc ≡ Ok word → access (insn_of word) cpu ≡ None
+    → frames ≡ frames_written cp0 rows frames (write_after (row_step cp0 rows frames cpu))
+unfolding frames_written
+plain_step_writes_nothing cp0 rows frames cpu word law aligned answer plain =
+    let step : row_step cp0 rows frames cpu ≡ plain_step cpu word =
+    sym (fetched_is cp0 rows frames cpu word aligned answer) ∙ law (row_answers cp0 rows frames) cpu word plain in
+    sym (ap (frames_written cp0 rows frames) (ap write_after step ∙ no_write cpu (effect (insn_of word) cpu 0)))
 
 -- a step that doesn't retire leaves the registers and memory
 pub cpu_stays : (cpu : Cpu) (step : Step) → has_retired step ≡ false → cpu_after cpu step ≡ cpu

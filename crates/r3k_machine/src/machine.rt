@@ -82,7 +82,7 @@ impl Machine {
         ensures machine { self.new ≡ with_random_fallen self.old }
         ensures end { result ≡ end_of self.old.cp0 self.old.tlb outcome }
     {
-        self.cp0.random.fall_times(1);
+        self.cp0.random.fall();
         match outcome {
             Outcome::Retired => MachineEnd::Retired,
             Outcome::Call => MachineEnd::Call,

@@ -11,11 +11,17 @@ use crate::bus::RowBus;
 use crate::code::CodePage;
 use frame_store::Frames;
 use mips_exec::Cpu;
-use mips_step::{Live, retire_live};
+use mips_step::{
+    Live, law_plain_words, moves_word, retire_access, retire_plain, retire_word_access,
+};
 use r3k_cp0::Cp0;
 use r3k_tlb::Tlb;
 
-/// A step whose fetch is answered with this word, of which only is told whether it retires.
+/// Words from this one on are loads, stores and coprocessors.
+const FIRST_ACCESS: u32 = 0x8000_0000;
+
+/// A step whose fetch is answered with this word, of which only is told whether it retires. Memory is lent in the arms
+/// that ask it, so that other steps don't pay for it.
 #[tactic(auto, using(crate::proofs::Written::length_written))]
 #[inline(always)]
 fn retire_word(live: &mut Live<'_>, frames: &mut Frames, tlb: &Tlb, cp0: &Cp0, word: u32) -> bool
@@ -29,8 +35,16 @@ fn retire_word(live: &mut Live<'_>, frames: &mut Frames, tlb: &Tlb, cp0: &Cp0, w
     ensures frames { frames.new ≡ frames_written cp0.now tlb.now frames.old (write_after (row_step cp0.now tlb.now frames.old (joined live.old))) }
     ensures size { length frames.new ≡ length frames.old }
 {
+    if word < FIRST_ACCESS {
+        law_plain_words();
+        return retire_plain(live, word);
+    }
+    if moves_word(word) {
+        let mut bus = RowBus { frames, tlb, cp0 };
+        return retire_word_access(live, &mut bus, word);
+    }
     let mut bus = RowBus { frames, tlb, cp0 };
-    retire_live(live, &mut bus, word)
+    retire_access(live, &mut bus, word)
 }
 
 /// Steps of a running program, one after another, whose words stand in this page: at most so many, and as long as they

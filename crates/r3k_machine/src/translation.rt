@@ -121,7 +121,7 @@ fn reached_page_by_rule(
 }
 
 /// The page of physical memory that an access reaches, or what it raises: at once where a row of a user's address
-/// serves it.
+/// serves it, or where it is the kernel's and goes by no row.
 #[inline(always)]
 pub(crate) fn reached_page(
     frames: &Frames,
@@ -142,6 +142,11 @@ pub(crate) fn reached_page(
                 return Ok(row.page());
             }
             _ => {}
+        }
+    } else if va < DIRECT_END && !cp0.is_user() {
+        let page = va % DIRECT_SIZE / PAGE_BYTES;
+        if page < frames.pages() {
+            return Ok(page);
         }
     }
     reached_page_by_rule(frames, tlb, cp0, kind, va)
