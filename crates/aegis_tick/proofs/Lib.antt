@@ -1,4 +1,4 @@
-mod Whole
+pub mod Whole
 mod Coming
 mod Happening
 mod Refusals

@@ -1,10 +1,11 @@
 //! The events that are due in a tick.
-ghost use Rattle.std.specs.Prelude.{◌≡◌, ◌+◌, true};
+ghost use Rattle.std.specs.Prelude.{◌≡◌, ◌≤◌, ◌+◌, ◌-◌, ℕ, min, true};
 ghost use Rattle.external_event.specs.Order.{are_in_order};
 ghost use Rattle.world_model.specs.Event.{schedule_of};
-ghost use Rattle.aegis_tick.specs.Course.{AreLater, occurrences};
+ghost use Rattle.board_model.specs.Stretch.{IsQuiet};
+ghost use Rattle.aegis_tick.specs.Course.{AreLater, next_time_of, occurrences};
 
-use crate::running::count_at;
+use crate::running::{count_at, next_time};
 use external_event::Event;
 
 /// The events of a time, and those of later times: of events in their order, none of which is earlier.
@@ -15,4 +16,14 @@ pub fn due_and_later(events: &[Event], time: u32) -> (&[Event], &[Event])
     ensures order { are_in_order (time + 1) result.1.now ≡ true }
 {
     events.split_at(count_at(events, time))
+}
+
+/// How many ticks from a time on have no event, at most so many: of events in their order, none of which is earlier.
+pub fn quiet_ticks(events: &[Event], time: u32, most: u32) -> u32
+    requires { are_in_order time events.now ≡ true }
+    ensures until { result ≡ min most (next_time_of events.now - time) }
+    ensures quiet { IsQuiet (schedule_of events.now) time (time + result) }
+    ensures order { (ticks : ℕ) → ticks ≤ result → are_in_order (time + ticks) events.now ≡ true }
+{
+    most.min(next_time(events, 0) - time)
 }

@@ -9,7 +9,7 @@ mod laws;
 mod running;
 
 pub use booting::boot;
-pub use due::due_and_later;
+pub use due::{due_and_later, quiet_ticks};
 pub use halves::{HALF_ROWS, begin_tick, begin_with, finish_tick};
 pub use laws::{law_halves, law_idle};
 pub use running::{TICK_ROWS, end_of_run, event, make_room, run, tick};

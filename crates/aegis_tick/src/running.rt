@@ -72,7 +72,7 @@ pub(crate) fn count_at(events: &[Event], time: u32) -> usize
 }
 
 /// The time of the first event behind the first ones, so many, or a time behind every tick, if there is none.
-fn next_time(events: &[Event], first: usize) -> u32
+pub(crate) fn next_time(events: &[Event], first: usize) -> u32
     requires { first ≤ length events.now }
     ensures { result ≡ next_time_of (drop first events.now) }
 {

@@ -1,5 +1,6 @@
 //! The trace of a whole run.
-ghost use Rattle.std.specs.Prelude.{◌≡◌, ◌++◌, [], ◌∷◌, ◌≤◌, codes, IfOk, OnOk, true};
+ghost use Rattle.std.specs.Prelude.{◌≡◌, ◌++◌, [], ◌∷◌, ◌≤◌, ◌<◌, ◌+◌, codes, IfOk, OnOk, true};
+ghost use Rattle.aegis_limits.specs.Limits.{most_ticks};
 ghost use Rattle.trace_view.specs.Limit.{most_traced_ticks};
 ghost use Rattle.external_event.specs.Order.{are_in_order};
 ghost use Rattle.line_text.specs.Text.{dec_text};
@@ -8,19 +9,24 @@ ghost use Rattle.world_model.specs.Event.{schedule_of};
 ghost use Rattle.run_model.specs.Run.{world_after_ticks};
 ghost use Rattle.board_model.specs.Showing.{world_of};
 ghost use Rattle.board_model.specs.Ticks.{IsFresh, IsTicked, MayTick};
+ghost use Rattle.aegis_calls.specs.QuietTicks.{AreQuietTicks, AreSteadyTicks};
 ghost use Rattle.aegis_tick.specs.Course.{occurrences, world_with};
 ghost use Rattle.aegis_tick.specs.Halves.{first_half, second_half};
+ghost use Rattle.trace_view.specs.Others.{AnotherRuns};
 ghost use Rattle.trace_view.specs.Trace.{tick_line, tick_lines, trace_text};
 
 use crate::step::push_step;
 use aegis_calls::Board;
 use aegis_limits::OutOfMemory;
-use aegis_tick::{begin_with, boot, due_and_later, end_of_run, finish_tick, law_halves, law_idle};
+use aegis_tick::{
+    begin_with, boot, due_and_later, end_of_run, finish_tick, law_halves, law_idle, quiet_ticks,
+};
 use boot_image::Image;
 use external_event::Event;
 use line_text::{Word, push_line, push_word};
 use run_report::push_end_line;
 use std::alloc::Global;
+use wire_model::law_time;
 use world_model::WorldView;
 
 /// Makes a tick in which these events happen, and appends the line of the environment's step, if it makes one.
@@ -43,6 +49,24 @@ fn push_tick(
     Ok(())
 }
 
+/// Makes plain ticks of another environment, at most so many, and none while the environment itself runs. The result is
+/// how many. The environment has no line in them.
+fn pass_others(board: &mut Board, env: u8, most: u32) -> u32
+    requires time { board.old.time + most ≤ most_ticks }
+    ensures world { AreQuietTicks board.old board.new result }
+    ensures steady { AreSteadyTicks board.old result }
+    ensures others { 0 < result → AnotherRuns env (world_of board.old) }
+    ensures most { result ≤ most }
+    ensures time { board.new.time ≡ board.old.time + result }
+    ensures numbers { board.new.claims.next ≡ board.old.claims.next }
+    ensures whole { board.new.roster.spare ≡ board.old.roster.spare }
+{
+    match board.runner() {
+        Some(runner) if runner != env => board.stretch(most),
+        _ => 0,
+    }
+}
+
 /// Makes so many ticks with the events of their times, or fewer where the board is idle before, and appends the lines of
 /// the environment's steps.
 fn push_ticks(
@@ -60,13 +84,18 @@ fn push_ticks(
 {
     law_halves();
     law_idle();
+    law_time();
     let mut left = events;
-    for done in 0..ticks {
+    let mut done = 0;
+    while done < ticks {
         if board.idle() {
             return Ok(());
         }
         let (now, later) = due_and_later(left, done);
         push_tick(out, board, now, env)?;
+        done += 1;
+        let quiet = quiet_ticks(later, done, ticks - done);
+        done += pass_others(board, env, quiet);
         left = later;
     }
     Ok(())
