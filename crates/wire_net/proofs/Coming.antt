@@ -1,13 +1,13 @@
 -- The events that are to come, in order: those of a time stand first.
-use Rattle.std.proofs.Common.{◌≡◌, ℕ, suc, take, ◌+◌, ◌<◌, ◌≤◌, Bool, true, List, [], ◌∷◌, drop, length, refl, sym, ◌∙◌, ap, subst, arith, inl, inr}
+use Rattle.std.proofs.Common.{◌≡◌, ℕ, suc, take, ◌+◌, ◌-◌, ◌<◌, ◌≤◌, Bool, true, List, [], ◌∷◌, drop, length, refl, sym, ◌∙◌, ap, subst, arith, inl, inr}
 use Rattle.std.specs.Prelude.{◌==◌, nat_le, filter}
 use Rattle.std.specs.List.{prefix_len}
 use Rattle.std.proofs.lemmas.Bool.{and_from, and_parts, cases_eq, eq-eqb, le-leb, leb-true, ne_eqb}
 use Rattle.external_event.specs.EventValue.{EventValue}
 use Rattle.external_event.specs.Order.{are_in_order}
 use Rattle.world_model.specs.Event.{schedule_of}
-use Rattle.aegis_tick.specs.Course.{occurrences}
-use Rattle.wire_net.specs.Station.{scheduled}
+use Rattle.aegis_tick.specs.Course.{next_time_of, occurrences}
+use Rattle.wire_net.specs.Station.{scheduled, still_coming}
 
 abbrev is_at : ℕ → EventValue → Bool
 is_at t x = x.time == t
@@ -74,8 +74,29 @@ pub record IsComing (t : ℕ) (all coming : List EventValue) : Type 0 where
 pub coming_now : (t : ℕ) (all coming : List EventValue) → IsComing t all coming → occurrences (scheduled t coming) ≡ schedule_of all t
 coming_now t all coming is = ap occurrences (sym (firsts t coming is.ordered)) ∙ sym (is.same t (omega arith))
 
-pub coming_next : (t : ℕ) (all coming : List EventValue) → IsComing t all coming → IsComing (t + 1) all (drop (length (scheduled t coming)) coming)
+pub coming_next : (t : ℕ) (all coming : List EventValue) → IsComing t all coming → IsComing (t + 1) all (still_coming t coming)
 coming_next t all coming is = record {
   ordered = rest_in_order t coming is.ordered;
   same = λ u from. is.same u (omega arith) ∙ ap occurrences (behind t u coming (omega arith));
 }
+
+-- before the next of them nothing happens by it, and until then they are what is still to come
+none_before : (from t : ℕ) (xs : List EventValue) → are_in_order from xs ≡ true → t < next_time_of xs → filter (is_at t) xs ≡ []
+none_before from t [] ordered before = refl
+none_before from t (x ∷ xs) ordered before =
+    let parts = and_parts (nat_le from x.time) (are_in_order x.time xs) ordered in
+    rw (ne_eqb x.time t (λ same. omega arith)) (none_earlier t x.time xs before parts.1)
+
+order_on : (t k : ℕ) (xs : List EventValue) → are_in_order t xs ≡ true → k ≤ next_time_of xs - t → are_in_order (t + k) xs ≡ true
+order_on t k [] ordered most = refl
+order_on t k (x ∷ xs) ordered most =
+    let parts = and_parts (nat_le t x.time) (are_in_order x.time xs) ordered in
+    let least : t ≤ x.time = leb-true t x.time parts.0 in
+    and_from (nat_le (t + k) x.time) (are_in_order x.time xs) (le-leb (t + k) x.time (omega arith)) parts.1
+
+module _ (t k : ℕ) (all coming : List EventValue) (is : IsComing t all coming) (most : k ≤ next_time_of coming - t) where
+  pub coming_on : IsComing (t + k) all coming
+  coming_on = record { ordered = order_on t k coming is.ordered most; same = λ u from. is.same u (omega arith) }
+
+  pub none_until : (u : ℕ) → t ≤ u → u < t + k → schedule_of all u ≡ []
+  none_until u from below = is.same u from ∙ ap occurrences (none_before t u coming is.ordered (omega arith))

@@ -3,5 +3,7 @@ mod Happening
 mod Coming
 mod Sends
 mod Wiring
+mod Ahead
+mod Machine
 mod Ticking
 mod Progress

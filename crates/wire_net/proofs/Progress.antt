@@ -1,26 +1,63 @@
 -- From tick to tick.
-use Rattle.std.proofs.Common.{◌≡◌, ℕ, ◌+◌, ◌<◌, ◌≤◌, List, length, get_or, sym, ◌∙◌, arith, subst, inl, inr}
+use Rattle.std.proofs.Common.{◌≡◌, ℕ, ◌+◌, ◌-◌, ◌<◌, ◌≤◌, List, [], length, get_or, sym, ◌∙◌, ap, arith, subst, inl, inr, true}
 use Rattle.std.specs.Prelude.{Vec}
 use Rattle.std.specs.Global.{Global}
-use Rattle.std.proofs.lemmas.Bool.{cases_eq}
+use Rattle.std.proofs.lemmas.Bool.{cases_eq, cases_lt}
 use Rattle.external_event.specs.EventValue.{EventValue}
 use Rattle.board_model.specs.Shown.{Shown}
 use Rattle.board_model.specs.Showing.{world_of}
 use Rattle.board_model.specs.Ticks.{IsFresh}
 use Rattle.wire_model.specs.Laws.{BeginAtZero}
-use Rattle.wire_model.specs.Wire.{Wire, joined}
+use Rattle.wire_model.specs.Wire.{Wire, joined, sent_between, world_on_wire}
 use Rattle.wire_net.specs.declared.delivery.Batch.{Batch}
 use Rattle.wire_net.specs.declared.delivery.Delivery.{Delivery}
 use Rattle.wire_net.specs.declared.net.Station.{Station}
 use Rattle.wire_net.specs.Course.{AllCameSoFar, AllShow, IsWireOf}
-use Rattle.wire_net.specs.Delivery.{due_at}
-use Rattle.wire_net.specs.Station.{Happened, Ticked}
-use Rattle.wire_net.proofs.Coming.{IsComing}
+use Rattle.wire_net.specs.Delivery.{due_at, rise_between}
+use Rattle.wire_net.specs.Station.{Happened, IsThrough}
+use Rattle.wire_net.proofs.Ahead.{IsWorldAt, world_from, world_now}
+use Rattle.wire_net.proofs.Machine.{IsPlaced, IsReady, IsUntil, came_when, placed_from, placed_next, sent_now, shown_next}
+use Rattle.wire_net.proofs.Queue.{none_from}
 use Rattle.wire_net.proofs.Ticking.{sends}
-use Rattle.wire_net.proofs.Wiring.{IsReady, Laws, begin_at_zero, came_to, came_when, coming_at, next_shown, sent_is_coming, shown_first, witness}
+use Rattle.wire_net.proofs.Wiring.{Laws, begin_at_zero, came_to, coming_at, none_is_coming, sent_in_tick, sent_is_coming, shown_first, witness}
+
+-- all machines stand between two ticks
+abbrev pub AllPlaced : List (Vec EventValue Global) → ℕ → ℕ → List Shown → List Station → Type 0
+AllPlaced events t limit boards stations = (i : ℕ) (b : Shown) (s : Station) (v : Vec EventValue Global) → i < length boards
+    → IsPlaced t limit (get_or events i v).items (get_or stations i s) (get_or boards i b)
+
+-- each board shows its world at the tick that it makes next
+abbrev pub AllAhead : Wire → ℕ → List Shown → List Station → Type 0
+AllAhead net t boards stations = (i : ℕ) (b : Shown) (s : Station) → i < length boards
+    → IsWorldAt net i t (get_or stations i s).time (world_of (get_or boards i b))
+
+-- all are through with a tick
+abbrev AllThrough : ℕ → ℕ → List Delivery → List Shown → List Station → List Shown → List Station → Type 0
+AllThrough t until now boards stations next behind = (i : ℕ) (b : Shown) (s : Station) → i < length boards
+    → IsThrough i t until now (get_or boards i b) (get_or stations i s) (get_or next i b) (get_or behind i s)
+
+-- how many boards, stations and schedules there are
+pub record AreMany (count : ℕ) (events : List (Vec EventValue Global)) (boards : List Shown) (stations : List Station) : Type 0 where
+  pub schedules : length events ≡ count
+  pub boards_are : length boards ≡ count
+  pub stations_are : length stations ≡ count
+
+pub all_placed_next : (count t until limit : ℕ) (events : List (Vec EventValue Global)) (boards : List Shown) (stations : List Station) (now : List Delivery) (next : List Shown) (behind : List Station)
+    → AreMany count events boards stations → AreMany count events next behind → IsUntil t until limit → AllPlaced events t limit boards stations
+    → AllThrough t until now boards stations next behind → AllPlaced events (t + 1) limit next behind
+all_placed_next count t until limit events boards stations now next behind are becoming is placed through i b s v within =
+    let many = are.boards_are in
+    let more = becoming.boards_are in
+    placed_next i t until limit now (get_or events i v).items (get_or boards i b) (get_or stations i s) (get_or next i b) (get_or behind i s) is
+    (placed i b s v (omega arith)) (through i b s (omega arith))
+
+pub all_placed_from : (t next limit : ℕ) (events : List (Vec EventValue Global)) (boards : List Shown) (stations : List Station) → length stations ≡ length boards
+    → ((i : ℕ) (s : Station) → i < length stations → next ≤ (get_or stations i s).time) → AllPlaced events t limit boards stations → AllPlaced events next limit boards stations
+all_placed_from t next limit events boards stations same each placed i b s v within =
+    placed_from t next limit (get_or events i v).items (get_or stations i s) (get_or boards i b) (each i s (omega arith)) (placed i b s v within)
 
 -- the boards at the start, and their schedules
-module _ (laws : Laws) (first : List Shown) (events : List (Vec EventValue Global)) (delay : ℕ) (net : Wire) (is : IsWireOf first events delay net) (lists : length events ≡ length first)
+module _ (laws : Laws) (first : List Shown) (events : List (Vec EventValue Global)) (delay : ℕ) (net : Wire) (is : IsWireOf first events delay net)
     (fresh : (i : ℕ) (b : Shown) → i < length first → IsFresh (get_or first i b)) (least : 1 ≤ delay) where
   zeros : BeginAtZero net
   zeros = begin_at_zero first events delay net is fresh
@@ -28,57 +65,129 @@ module _ (laws : Laws) (first : List Shown) (events : List (Vec EventValue Globa
   inside : (i : ℕ) → i < length first → i < net.count
   inside i within = subst (λ (n : ℕ). i < n) (sym is.count) within
 
+  within : (i : ℕ) → i < net.count → i < length first
+  within i inside = subst (λ (n : ℕ). i < n) is.count inside
+
   -- boards that show their worlds came so far
-  pub all_came_to : (t limit : ℕ) (boards : List Shown) → length boards ≡ length first → t ≤ limit → AllShow net t boards → AllCameSoFar net limit boards
-  all_came_to t limit boards same most shown i b within = came_to laws.worlds net i t limit (world_of (get_or boards i b)) zeros (inside i (omega arith)) most (shown i b within)
+  pub all_came_to : (t limit : ℕ) (boards : List Shown) (stations : List Station) → AreMany (length first) events boards stations → AllPlaced events t limit boards stations → AllAhead net t boards stations
+      → AllCameSoFar net limit boards
+  all_came_to t limit boards stations are placed ahead i b within =
+      let many = are.boards_are in
+      let men = are.stations_are in
+      let plans = are.schedules in
+      let s = witness stations i (omega arith) in
+      let v = witness events i (omega arith) in
+      came_to laws.worlds net i (get_or stations i s).time limit (world_of (get_or boards i b)) zeros (inside i (omega arith)) (placed i b s v within).most (ahead i b s within).world
 
   pub all_came_first : (limit : ℕ) → AllCameSoFar net limit first
   all_came_first limit i b within = came_to laws.worlds net i 0 limit (world_of (get_or first i b)) zeros (inside i within) (omega arith) (shown_first first events delay net is i b within)
 
-  -- the boards and stations before a tick, what is under way then, and what is due
-  module _ (t : ℕ) (boards : List Shown) (stations : List Station) (queue : List Batch) (now : List Delivery)
-      (count : length boards ≡ length first) (manned : length stations ≡ length first)
-      (coming : (i : ℕ) (s : Station) (v : Vec EventValue Global) → i < length first → IsComing t (get_or events i v).items (get_or stations i s).coming.now)
-      (shown : AllShow net t boards) (due : (s : ℕ) → t ≤ s → s < t + delay → due_at s queue ≡ coming_at net s) (taken : now ≡ due_at t queue) where
-    ready : (i : ℕ) (b : Shown) (s : Station) (v : Vec EventValue Global) → i < length first → IsReady net i t (get_or events i v).items (get_or stations i s) now (get_or boards i b)
-    ready i b s v within = record {
-      zeros = zeros;
-      inside = inside i within;
-      least = omega (arith, is.delay, least);
-      schedule = is.schedules i v within;
-      coming = coming i s v within;
-      due = taken ∙ due t (omega arith) (omega arith);
-      shown = shown i b (omega arith);
-    }
+  pub all_ahead_first : (stations : List Station) → ((i : ℕ) (s : Station) → i < length first → (get_or stations i s).time ≡ 0) → AllAhead net 0 first stations
+  all_ahead_first stations begin i b s within =
+      subst (λ (n : ℕ). IsWorldAt net i 0 n (world_of (get_or first i b))) (sym (begin i s within))
+      (world_now net i 0 (world_of (get_or first i b)) (shown_first first events delay net is i b within))
 
-    -- once all made the tick, each board shows its next world
-    pub all_next : (next : List Shown) (behind : List Station) → length next ≡ length first
-        → ((i : ℕ) (b : Shown) (s : Station) → i < length boards → Ticked i t now (get_or boards i b) (get_or stations i s) (get_or next i b) (get_or behind i s)) → AllShow net (t + 1) next
-    all_next next behind same ticked i b within =
+  pub all_ahead_from : (t next : ℕ) (boards : List Shown) (stations : List Station) → t ≤ next → AllAhead net t boards stations → AllAhead net next boards stations
+  all_ahead_from t next boards stations later ahead i b s within = world_from net i t next (get_or stations i s).time (world_of (get_or boards i b)) later (ahead i b s within)
+
+  -- at the end each shows its last world
+  pub all_show : (t limit : ℕ) (boards : List Shown) (stations : List Station) → limit ≤ t → AreMany (length first) events boards stations → AllPlaced events t limit boards stations → AllAhead net t boards stations
+      → AllShow net limit boards
+  all_show t limit boards stations over are placed ahead i b within =
+      let many = are.boards_are in
+      let men = are.stations_are in
+      let plans = are.schedules in
+      let s = witness stations i (omega arith) in
+      let v = witness events i (omega arith) in
+      let from = (placed i b s v within).later in
+      let most = (placed i b s v within).most in
+      let end : (get_or stations i s).time ≡ limit = omega arith in
+      (ahead i b s within).world ∙ ap (world_on_wire net i) end
+
+  -- the boards and stations before a tick, what is under way then, what is due, and until when nothing else arrives
+  module _ (t until limit : ℕ) (boards : List Shown) (stations : List Station) (queue rest : List Batch) (now : List Delivery)
+      (are : AreMany (length first) events boards stations) (times : IsUntil t until limit) (early : until ≤ t + delay) (placed : AllPlaced events t limit boards stations)
+      (ahead : AllAhead net t boards stations) (due : (s : ℕ) → t ≤ s → s < t + delay → due_at s queue ≡ coming_at net s) (taken : now ≡ due_at t queue)
+      (others : (u : ℕ) → t < u → due_at u rest ≡ due_at u queue) (none : (u : ℕ) → u < until → due_at u rest ≡ []) where
+    ready : (i : ℕ) (b : Shown) (s : Station) (v : Vec EventValue Global) → i < length first → IsReady net i t until limit (get_or events i v).items (get_or stations i s) now (get_or boards i b)
+    ready i b s v within =
+        let many = are.boards_are in
+        record {
+          zeros = zeros;
+          inside = inside i within;
+          least = omega (arith, is.delay, least);
+          schedule = is.schedules i v within;
+          placed = placed i b s v (omega arith);
+          times = times;
+          due = taken ∙ due t (omega arith) (omega arith);
+          none = λ u from before. sym (due u (omega arith) (omega arith)) ∙ sym (others u (omega arith)) ∙ none u before;
+          shown = ahead i b s (omega arith);
+        }
+
+    -- where it was refused, each came so far
+    pub all_came_when : (next : List Shown) → length next ≡ length first
+        → ((i : ℕ) (b : Shown) (s : Station) → i < length boards → Happened i t until now (get_or boards i b) (get_or stations i s) (get_or next i b)) → AllCameSoFar net limit next
+    all_came_when next same happened i b within =
+        let many = are.boards_are in
+        let men = are.stations_are in
+        let plans = are.schedules in
         let here : i < length first = omega arith in
         let s = witness stations i (omega arith) in
         let v = witness events i (omega arith) in
-        next_shown laws net i t (get_or events i v).items (get_or stations i s) now (get_or boards i b) (ready i b s v here) (world_of (get_or next i b)) (ticked i b s (omega arith)).world
+        came_when laws net i t until limit (get_or events i v).items (get_or stations i s) now (get_or boards i b) (ready i b s v here) (get_or next i b) (happened i b s (omega arith))
 
-    -- and where it was refused, each came so far
-    pub all_came_when : (limit : ℕ) (next : List Shown) → t < limit → length next ≡ length first
-        → ((i : ℕ) (b : Shown) (s : Station) → i < length boards → Happened i t now (get_or boards i b) (get_or stations i s) (get_or next i b)) → AllCameSoFar net limit next
-    all_came_when limit next less same happened i b within =
-        let here : i < length first = omega arith in
-        let s = witness stations i (omega arith) in
-        let v = witness events i (omega arith) in
-        came_when laws net i t (get_or events i v).items (get_or stations i s) now (get_or boards i b) (ready i b s v here) limit (get_or next i b) less (happened i b s (omega arith))
+    module _ (next : List Shown) (behind : List Station) (becoming : AreMany (length first) events next behind) (through : AllThrough t until now boards stations next behind) where
+      -- once all are through with the tick, each board shows its world
+      pub all_ahead_next : AllAhead net (t + 1) next behind
+      all_ahead_next i b s within =
+          let many = are.boards_are in
+          let more = becoming.boards_are in
+          let plans = are.schedules in
+          let here : i < length first = omega arith in
+          let v = witness events i (omega arith) in
+          shown_next laws net i t until limit (get_or events i v).items (get_or stations i s) now (get_or boards i b) (ready i b s v here) (get_or next i b) (get_or behind i s) (through i b s (omega arith))
 
-    -- what was sent in the tick is delivered once the delay is over, and the rest as before
-    pub due_next : (next : List Shown) (behind : List Station) (out : List Delivery) (rest later : List Batch) (b : Shown) → length next ≡ length first
-        → ((i : ℕ) (b : Shown) (s : Station) → i < length boards → Ticked i t now (get_or boards i b) (get_or stations i s) (get_or next i b) (get_or behind i s))
-        → out ≡ joined (sends (t + delay) boards next b) (length first)
-        → ((u : ℕ) → t < u → due_at u rest ≡ due_at u queue) → ((u : ℕ) → u < t + delay → due_at u later ≡ due_at u rest) → due_at (t + delay) later ≡ out
-        → (s : ℕ) → t + 1 ≤ s → s < t + 1 + delay → due_at s later ≡ coming_at net s
-    due_next next behind out rest later b same ticked sent others before last s from below =
-        elim (cases_eq s (t + delay)) [
-          | inl here ↦
-              subst (λ (u : ℕ). due_at u later ≡ coming_at net u) (sym here)
-              (last ∙ sent ∙ sent_is_coming first events delay net is laws.worlds zeros t boards next b count same shown (all_next next behind same ticked))
-          | inr other ↦ before s (omega arith) ∙ others s (omega arith) ∙ due s (omega arith) (omega arith)
-        ]
+      -- what was sent in it is what was sent between the boards
+      all_sent : (b : Shown) (i : ℕ) → i < length first → sent_between (world_of (get_or boards i b)) (world_of (get_or next i b)) ≡ sent_in_tick net t i
+      all_sent b i within =
+          let many = are.boards_are in
+          let men = are.stations_are in
+          let plans = are.schedules in
+          let s = witness stations i (omega arith) in
+          let v = witness events i (omega arith) in
+          sent_now laws net i t until limit (get_or events i v).items (get_or stations i s) now (get_or boards i b) (ready i b s v within) (get_or next i b) (get_or behind i s) (through i b s (omega arith))
+
+      -- in the ticks before the first that one of them makes next nothing is sent
+      none_sent : (later : ℕ) → ((i : ℕ) (s : Station) → i < length behind → later ≤ (get_or behind i s).time) → (u : ℕ) → t + 1 ≤ u → u < later → coming_at net (u + delay) ≡ []
+      none_sent later each u from below =
+          none_is_coming laws.worlds net u delay zeros is.delay
+          (λ i in_net.
+          let more = becoming.boards_are in
+          let men = becoming.stations_are in
+          let here = within i in_net in
+          let s = witness behind i (omega arith) in
+          let b = witness next i (omega arith) in
+          let last = each i s (omega arith) in
+          (all_ahead_next i b s (omega arith)).silent u from (omega arith))
+
+      -- what was sent in the tick is delivered once the delay is over, the rest as before, and nothing behind it
+      pub due_next : (later : ℕ) (out : List Delivery) (put : List Batch) (b : Shown)
+          → t + 1 ≤ later → ((i : ℕ) (s : Station) → i < length behind → later ≤ (get_or behind i s).time)
+          → out ≡ joined (sends (t + delay) boards next b) (length first)
+          → ((u : ℕ) → u < t + delay → due_at u put ≡ due_at u rest) → due_at (t + delay) put ≡ out → rise_between (t + 1) (t + delay + 1) put ≡ true
+          → (s : ℕ) → later ≤ s → s < later + delay → due_at s put ≡ coming_at net s
+      due_next later out put b after each sent before last rises s from below =
+          elim (cases_eq s (t + delay)) [
+            | inl here ↦
+                subst (λ (u : ℕ). due_at u put ≡ coming_at net u) (sym here)
+                (last ∙ sent ∙ sent_is_coming first events delay net is laws.worlds zeros t boards next b (all_sent b))
+            | inr other ↦
+                elim (cases_lt s (t + delay)) [
+                  | inl sooner ↦ before s sooner ∙ others s (omega arith) ∙ due s (omega arith) (omega arith)
+                  | inr not ↦
+                      let u = s - delay in
+                      let back : u + delay ≡ s = omega arith in
+                      none_from (t + 1) (t + delay + 1) s put rises (omega arith)
+                      ∙ sym (subst (λ (x : ℕ). coming_at net x ≡ []) back (none_sent later each u (omega arith) (omega arith)))
+                ]
+          ]

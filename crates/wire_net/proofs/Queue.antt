@@ -1,10 +1,10 @@
 -- A queue of batches whose times rise.
 use Rattle.std.proofs.Common.{arith, refl, sym, ◌≡◌, ◌≢◌, ◌<◌, ◌≤◌, ◌+◌, ℕ, List, [], ◌∷◌, ◌++◌, inl, inr, length, rules, true, false}
-use Rattle.std.specs.Prelude.{◌&&◌, nat_le, nat_lt}
+use Rattle.std.specs.Prelude.{◌&&◌, min, nat_le, nat_lt}
 use Rattle.std.proofs.lemmas.Bool.{and_from, and_parts, cases_eq, eq-eqb, eqb-false, le-leb, leb-true, lt-ltb, ltb-true, ne_eqb}
 use Rattle.wire_net.specs.declared.delivery.Batch.{Batch}
 use Rattle.wire_net.specs.declared.delivery.Delivery.{Delivery}
-use Rattle.wire_net.specs.Delivery.{due_at, is_due, rise_between}
+use Rattle.wire_net.specs.Delivery.{due_at, first_arrival, is_due, rise_between}
 
 -- the first batch of a rising queue, and those behind it
 pub record IsFirst (low limit : ℕ) (batch : Batch) (batches : List Batch) : Type 0 where
@@ -38,6 +38,38 @@ none_from least limit t (batch ∷ batches) rises past =
     let first = first_of least limit batch batches rises in
     let below = first.below in
     rw (ne_eqb batch.time t (λ same. omega arith)) (none_from (batch.time + 1) limit t batches first.behind past)
+
+-- nor before the first arrives; and from then on they rise
+pub none_arrives : (least limit most t : ℕ) (batches : List Batch) → rise_between least limit batches ≡ true → t < first_arrival most batches → due_at t batches ≡ []
+none_arrives least limit most t [] rises before = refl
+none_arrives least limit most t (batch ∷ batches) rises before =
+    let first = first_of least limit batch batches rises in
+    rw (ne_eqb batch.time t (λ same. omega arith)) (none_before (batch.time + 1) limit t batches first.behind (omega arith))
+
+pub rises_from_first : (least limit most : ℕ) (batches : List Batch) → rise_between least limit batches ≡ true → rise_between (first_arrival most batches) limit batches ≡ true
+rises_from_first least limit most [] rises = refl
+rises_from_first least limit most (batch ∷ batches) rises =
+    let first = first_of least limit batch batches rises in
+    rises_with (min batch.time most) limit batch batches (omega arith) first.below first.behind
+
+pub first_is_later : (least limit most : ℕ) (batches : List Batch) → rise_between least limit batches ≡ true → least ≤ most → least ≤ first_arrival most batches
+first_is_later least limit most [] rises from = from
+first_is_later least limit most (batch ∷ batches) rises from =
+    let first = first_of least limit batch batches rises in
+    let later = first.least in
+    omega arith
+
+pub first_is_within : (most : ℕ) (batches : List Batch) → first_arrival most batches ≤ most
+first_is_within most [] = omega arith
+first_is_within most (batch ∷ batches) = omega arith
+
+-- where they rise from one time on they rise from an earlier one on
+pub rises_earlier : (least from limit : ℕ) (batches : List Batch) → rise_between from limit batches ≡ true → least ≤ from → rise_between least limit batches ≡ true
+rises_earlier least from limit [] rises before = refl
+rises_earlier least from limit (batch ∷ batches) rises before =
+    let first = first_of from limit batch batches rises in
+    let later = first.least in
+    rises_with least limit batch batches (omega arith) first.below first.behind
 
 -- ---- taking the first
 

@@ -16,7 +16,7 @@ use Rattle.wire_model.specs.Wire.{after_tick, joined, sent_between}
 use Rattle.wire_net.specs.declared.delivery.Delivery.{Delivery}
 use Rattle.wire_net.specs.declared.net.Station.{Station}
 use Rattle.wire_net.specs.Delivery.{deliveries_of}
-use Rattle.wire_net.specs.Station.{Happened, Partly, Ticked}
+use Rattle.wire_net.specs.Station.{Happened, IsThrough, Partly}
 use Rattle.wire_net.proofs.Wiring.{joined_alike}
 
 -- what was counted of the board before is what is known to be sent
@@ -36,6 +36,11 @@ same_count happens w =
     let v = run_phases w (map happen happens) in
     cond_both (is_idle_book w.book) w (tick_step v) (λ (u : World). u.count ≡ w.count) (λ idle. refl)
     (λ busy. run_count (tick_phases (takings v)) v ∙ run_count (map happen happens) w)
+
+-- one that is through with a tick made it, or is as it was
+happened_through : (i t until : ℕ) (due : List Delivery) (b : Shown) (s : Station) (c : Shown) (r : Station) → IsThrough i t until due b s c r → Happened i t until due b s c
+happened_through i t until due b s c r (inl ticked) = inl (inr ticked.went)
+happened_through i t until due b s c r (inr ahead) = inr ahead.board
 
 -- ---- one machine more
 
@@ -84,21 +89,21 @@ out_more arrival boards now place board b old first out new within was before mo
     ∙ ap (λ (xs : List Delivery). first ++ (joined late place ++ xs)) here
     ∙ ap (λ (n : ℕ). first ++ joined late n) next
 
--- where the tick of this machine was refused, each made it, came into it, or is as it was
-pub refused_each : (t : ℕ) (due : List Delivery) (boards now : List Shown) (stations behind : List Station) (place : ℕ) (board : Shown) → place < length now
-    → ((i : ℕ) (b : Shown) (s : Station) → i < place → Ticked i t due (get_or boards i b) (get_or stations i s) (get_or now i b) (get_or behind i s))
+-- where the tick of this machine was refused, each is through with it, came into it, or is as it was
+pub refused_each : (t until : ℕ) (due : List Delivery) (boards now : List Shown) (stations behind : List Station) (place : ℕ) (board : Shown) → place < length now
+    → ((i : ℕ) (b : Shown) (s : Station) → i < place → IsThrough i t until due (get_or boards i b) (get_or stations i s) (get_or now i b) (get_or behind i s))
     → ((i : ℕ) (b : Shown) → place ≤ i → get_or now i b ≡ get_or boards i b)
-    → ((b : Shown) (s : Station) → Partly place t due (get_or boards place b) (get_or stations place s) board)
-    → (i : ℕ) (b : Shown) (s : Station) → Happened i t due (get_or boards i b) (get_or stations i s) (get_or (set now place board) i b)
-refused_each t due boards now stations behind place board within done left part i b s =
+    → ((b : Shown) (s : Station) → Partly place t until due (get_or boards place b) (get_or stations place s) board)
+    → (i : ℕ) (b : Shown) (s : Station) → Happened i t until due (get_or boards i b) (get_or stations i s) (get_or (set now place board) i b)
+refused_each t until due boards now stations behind place board within done left part i b s =
     elim (cases_eq i place) [
       | inl here ↦
-          subst (λ (k : ℕ). Happened k t due (get_or boards k b) (get_or stations k s) (get_or (set now place board) k b)) (sym here)
-          (subst (λ (x : Shown). Happened place t due (get_or boards place b) (get_or stations place s) x) (sym (get_or-set_same now place board b within)) (inl (part b s)))
+          subst (λ (k : ℕ). Happened k t until due (get_or boards k b) (get_or stations k s) (get_or (set now place board) k b)) (sym here)
+          (subst (λ (x : Shown). Happened place t until due (get_or boards place b) (get_or stations place s) x) (sym (get_or-set_same now place board b within)) (inl (part b s)))
       | inr other ↦
-          subst (λ (x : Shown). Happened i t due (get_or boards i b) (get_or stations i s) x) (sym (get_or-set_other now place i board b other))
+          subst (λ (x : Shown). Happened i t until due (get_or boards i b) (get_or stations i s) x) (sym (get_or-set_other now place i board b other))
           (elim (cases_lt i place) [
-            | inl below ↦ inl (inr (done i b s below).world)
-            | inr behind ↦ inr (left i b behind)
+            | inl below ↦ happened_through i t until due (get_or boards i b) (get_or stations i s) (get_or now i b) (get_or behind i s) (done i b s below)
+            | inr later ↦ inr (left i b later)
           ])
     ]

@@ -15,12 +15,11 @@ use Rattle.board_model.specs.Ticks.{IsFresh}
 use Rattle.run_model.specs.Run.{happens_in}
 use Rattle.aegis_tick.specs.Course.{HappenedInPart, world_with}
 use Rattle.wire_model.specs.Laws.{BeginAtZero, FramesAreSettled, HappensOnWire, TicksOnWire, TimeIsTick, WorldsAreSettled}
-use Rattle.wire_model.specs.Wire.{Frame, Wire, after_tick, arrival, arrivals, framed, is_frame_for, joined, put_on_wire, sent_between, wired, world_in, world_on_wire}
+use Rattle.wire_model.specs.Wire.{Frame, Wire, arrival, arrivals, framed, is_frame_for, joined, put_on_wire, sent_between, wired, world_in, world_on_wire}
 use Rattle.wire_net.specs.declared.delivery.Delivery.{Delivery}
-use Rattle.wire_net.specs.declared.net.Station.{Station}
 use Rattle.wire_net.specs.Course.{AllShow, CameSoFar, IsWireOf}
 use Rattle.wire_net.specs.Delivery.{arriving, delivered_at, deliveries_of, is_delivery_for}
-use Rattle.wire_net.specs.Station.{Happened, happening}
+use Rattle.wire_net.specs.Station.{happening}
 use Rattle.wire_net.proofs.Coming.{IsComing, coming_now}
 
 -- ---- frames
@@ -74,6 +73,33 @@ coming_later net t delay is =
     ap (λ (test : Bool). if test then [] else map (delivered_at (t + delay)) (sent_on_wire net (t + delay - net.delay))) late
     ∙ ap (λ (u : ℕ). map (delivered_at (t + delay)) (sent_on_wire net u)) back
 
+-- what a machine sends in a tick
+abbrev pub sent_in_tick : Wire → ℕ → ℕ → List (List ℕ)
+sent_in_tick net t i = sent_between (world_on_wire net i t) (world_on_wire net i (t + 1))
+
+sent_by_each : WorldsAreSettled → (net : Wire) (t : ℕ) → BeginAtZero net → sent_on_wire net t ≡ joined (λ i. map (framed i) (sent_in_tick net t i)) net.count
+sent_by_each settled net t zeros =
+    let one : suc t ≡ t + 1 = omega arith in
+    joined_alike
+    (λ i. map (framed i) (sent_between (world_in net (wired net (suc t)) i t) (world_in net (wired net (suc t)) i (suc t))))
+    (λ i. map (framed i) (sent_in_tick net t i))
+    net.count
+    (λ i inside.
+    ap (λ (w : World). map (framed i) (sent_between w (world_on_wire net i (suc t)))) (settled net i t (suc t) zeros inside (omega arith))
+    ∙ ap (λ (n : ℕ). map (framed i) (sent_between (world_on_wire net i t) (world_on_wire net i n))) one)
+
+pub joined_none : {A : Type 0} (f : ℕ → List A) (n : ℕ) → ((i : ℕ) → i < n → f i ≡ []) → joined f n ≡ []
+joined_none f zero none = refl
+joined_none {A = A} f (suc n) none =
+    ap (λ (xs : List A). xs ++ f n) (joined_none f n (λ i less. none i (omega arith))) ∙ none n (omega arith)
+
+-- where no machine sends in a tick, nothing is delivered so many ticks later
+pub none_is_coming : WorldsAreSettled → (net : Wire) (t delay : ℕ) → BeginAtZero net → net.delay ≡ delay → ((i : ℕ) → i < net.count → sent_in_tick net t i ≡ []) → coming_at net (t + delay) ≡ []
+none_is_coming settled net t delay zeros is none =
+    coming_later net t delay is
+    ∙ ap (map (delivered_at (t + delay)))
+    (sent_by_each settled net t zeros ∙ joined_none (λ i. map (framed i) (sent_in_tick net t i)) net.count (λ i inside. ap (map (framed i)) (none i inside)))
+
 -- ---- the machines of a wire
 
 pub witness : {A : Type 0} (xs : List A) (i : ℕ) → i < length xs → A
@@ -92,24 +118,19 @@ module _ (boards : List Shown) (schedules : List (Vec EventValue Global)) (delay
   shown_first i b within = sym (is.starts i b within)
 
   -- what the machines sent in a tick is what is delivered so many ticks later
-  pub sent_is_coming : WorldsAreSettled → BeginAtZero net → (t : ℕ) (old new : List Shown) (b : Shown) → length old ≡ length boards → length new ≡ length boards
-      → AllShow net t old → AllShow net (t + 1) new
+  pub sent_is_coming : WorldsAreSettled → BeginAtZero net → (t : ℕ) (old new : List Shown) (b : Shown)
+      → ((i : ℕ) → i < length boards → sent_between (world_of (get_or old i b)) (world_of (get_or new i b)) ≡ sent_in_tick net t i)
       → joined (λ (i : ℕ). deliveries_of i (t + delay) (sent_between (world_of (get_or old i b)) (world_of (get_or new i b)))) (length boards) ≡ coming_at net (t + delay)
-  sent_is_coming settled zeros t old new b olds news before after =
+  sent_is_coming settled zeros t old new b are =
+      let late = t + delay in
       joined_alike
-      (λ i. deliveries_of i (t + delay) (sent_between (world_of (get_or old i b)) (world_of (get_or new i b))))
-      (λ i. map (delivered_at (t + delay)) (map (framed i) (sent_between (world_in net (wired net (suc t)) i t) (world_in net (wired net (suc t)) i (suc t)))))
+      (λ i. deliveries_of i late (sent_between (world_of (get_or old i b)) (world_of (get_or new i b))))
+      (λ i. map (delivered_at late) (map (framed i) (sent_in_tick net t i)))
       (length boards)
-      (λ i within.
-      let inside : i < net.count = subst (λ (n : ℕ). i < n) (sym is.count) within in
-      let now = before i b (omega arith) ∙ sym (settled net i t (suc t) zeros inside (omega arith)) in
-      let one : t + 1 ≡ suc t = omega arith in
-      let next : world_of (get_or new i b) ≡ world_on_wire net i (suc t) = after i b (omega arith) ∙ ap (world_on_wire net i) one in
-      framed_deliveries i (t + delay) (sent_between (world_of (get_or old i b)) (world_of (get_or new i b)))
-      ∙ ap (λ (w : World). map (delivered_at (t + delay)) (map (framed i) (sent_between w (world_of (get_or new i b))))) now
-      ∙ ap (λ (w : World). map (delivered_at (t + delay)) (map (framed i) (sent_between (world_in net (wired net (suc t)) i t) w))) next)
-      ∙ sym (map_joined (delivered_at (t + delay)) (λ i. map (framed i) (sent_between (world_in net (wired net (suc t)) i t) (world_in net (wired net (suc t)) i (suc t)))) (length boards))
-      ∙ ap (λ (n : ℕ). map (delivered_at (t + delay)) (joined (λ i. map (framed i) (sent_between (world_in net (wired net (suc t)) i t) (world_in net (wired net (suc t)) i (suc t)))) n)) (sym is.count)
+      (λ i within. ap (deliveries_of i late) (are i within) ∙ framed_deliveries i late (sent_in_tick net t i))
+      ∙ sym (map_joined (delivered_at late) (λ i. map (framed i) (sent_in_tick net t i)) (length boards))
+      ∙ ap (λ (n : ℕ). map (delivered_at late) (joined (λ i. map (framed i) (sent_in_tick net t i)) n)) (sym is.count)
+      ∙ ap (map (delivered_at late)) (sym (sent_by_each settled net t zeros))
       ∙ sym (coming_later net t delay is.delay)
 
 -- ---- a tick
@@ -121,6 +142,14 @@ pub happening_is : FramesAreSettled → (net : Wire) (i t : ℕ) (all coming : L
 happening_is settled net i t all coming zeros least schedule is =
     ap (λ (xs : List Occurrence). xs ++ arriving i (coming_at net t)) (coming_now t all coming is ∙ sym schedule)
     ∙ ap (λ (xs : List Occurrence). (net.machines i).schedule t ++ xs) (arrivals_are settled net i t zeros least)
+
+-- the laws of the model
+pub record Laws : Type 0 where
+  pub worlds : WorldsAreSettled
+  pub frames : FramesAreSettled
+  pub happens : HappensOnWire
+  pub ticks : TicksOnWire
+  pub timed : TimeIsTick
 
 -- a machine that came to the end of a tick, and one in which some of it happened
 pub came_to : WorldsAreSettled → (net : Wire) (i t ticks : ℕ) (v : World) → BeginAtZero net → i < net.count → t ≤ ticks → v ≡ world_on_wire net i t
@@ -150,47 +179,3 @@ came_into settled known timed net i t ticks happens w v zeros inside within show
       busy = λ some. awake;
       is = part.1 ∙ ap (λ (x : World). world_with (take part.0 happens) x) here ∙ ap (λ (xs : List Occurrence). world_with (take part.0 xs) u) (sym now);
     }
-
--- ---- a machine in a tick
-
--- the laws of the model
-pub record Laws : Type 0 where
-  pub worlds : WorldsAreSettled
-  pub frames : FramesAreSettled
-  pub happens : HappensOnWire
-  pub ticks : TicksOnWire
-  pub timed : TimeIsTick
-
--- A machine on the wire before a tick: its board shows its world, and what is still to come for it, and what is due, is
--- what its schedule and the wire say.
-pub record IsReady (net : Wire) (i t : ℕ) (all : List EventValue) (s : Station) (deliveries : List Delivery) (b : Shown) : Type 0 where
-  pub zeros : BeginAtZero net
-  pub inside : i < net.count
-  pub least : 1 ≤ net.delay
-  pub schedule : (net.machines i).schedule ≡ schedule_of all
-  pub coming : IsComing t all s.coming.now
-  pub due : deliveries ≡ coming_at net t
-  pub shown : world_of b ≡ world_on_wire net i t
-
-module _ (laws : Laws) (net : Wire) (i t : ℕ) (all : List EventValue) (s : Station) (due : List Delivery) (b : Shown) (ready : IsReady net i t all s due b) where
-  abbrev now : List Occurrence
-  now = (net.machines i).schedule t ++ arrivals net (wired net t) t i
-
-  happens_now : happening i t due s.coming.now ≡ now
-  happens_now =
-      ap (λ (xs : List Delivery). happening i t xs s.coming.now) ready.due
-      ∙ happening_is laws.frames net i t all s.coming.now ready.zeros ready.least (ap (λ (schedule : ℕ → List Occurrence). schedule t) ready.schedule) ready.coming
-
-  pub next_shown : (v : World) → v ≡ after_tick (happening i t due s.coming.now) (world_of b) → v ≡ world_on_wire net i (t + 1)
-  next_shown v is =
-      let one : suc t ≡ t + 1 = omega arith in
-      is
-      ∙ ap (λ (xs : List Occurrence). after_tick xs (world_of b)) happens_now
-      ∙ ap (after_tick now) ready.shown
-      ∙ sym (laws.ticks net i t ready.zeros ready.inside)
-      ∙ ap (world_on_wire net i) one
-
-  pub came_when : (limit : ℕ) (c : Shown) → t < limit → Happened i t due b s c → CameSoFar (wired net limit i) (net.machines i).start limit (world_of c)
-  came_when limit c less (inl (inl part)) = came_into laws.worlds laws.happens laws.timed net i t limit (happening i t due s.coming.now) (world_of b) (world_of c) ready.zeros ready.inside less ready.shown happens_now part.0 part.1
-  came_when limit c less (inl (inr whole)) = came_to laws.worlds net i (t + 1) limit (world_of c) ready.zeros ready.inside (omega arith) (next_shown (world_of c) whole)
-  came_when limit c less (inr same) = came_to laws.worlds net i t limit (world_of c) ready.zeros ready.inside (omega arith) (ap world_of same ∙ ready.shown)

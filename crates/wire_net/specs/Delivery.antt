@@ -1,5 +1,5 @@
 -- Packets that are under way, and those that are delivered.
-use Rattle.std.specs.Prelude.{ℕ, ◌+◌, List, [], ◌∷◌, Bool, true, false, nat_le, nat_lt, ◌==◌, ◌&&◌, if◌then◌else◌, filter, map}
+use Rattle.std.specs.Prelude.{ℕ, ◌+◌, List, [], ◌∷◌, Bool, true, false, nat_le, nat_lt, min, ◌==◌, ◌&&◌, if◌then◌else◌, filter, map}
 use Rattle.external_event.specs.declared.event.Occurrence.{Occurrence}
 use Rattle.external_event.specs.declared.event.Occurrence.TheVariants as outside
 use Rattle.wire_model.specs.Wire.{Frame, framed, comes_to}
@@ -39,6 +39,11 @@ due_at time (batch ∷ batches) = if batch.time == time then batch.deliveries.it
 abbrev pub is_due : ℕ → List Batch → Bool
 is_due time [] = false
 is_due time (batch ∷ batches) = batch.time == time
+
+-- when the first of these arrives, or another time where that is earlier
+abbrev pub first_arrival : ℕ → List Batch → ℕ
+first_arrival limit [] = limit
+first_arrival limit (batch ∷ batches) = min batch.time limit
 
 -- whether times rise from one batch to the next, from this time on, and stay below another
 abbrev pub rise_between : ℕ → ℕ → List Batch → Bool

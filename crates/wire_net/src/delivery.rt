@@ -1,7 +1,7 @@
 //! Packets that are under way.
 ghost use Rattle.std.specs.Prelude.{◌≡◌, ◌≤◌, ◌<◌, ◌+◌, ℕ, true, OnOk};
 ghost use Rattle.wire_model.specs.Wire.{comes_to};
-ghost use Rattle.wire_net.specs.Delivery.{due_at, is_delivery_for, is_due, packet_in, rise_between};
+ghost use Rattle.wire_net.specs.Delivery.{due_at, first_arrival, is_delivery_for, is_due, packet_in, rise_between};
 
 use aegis_limits::OutOfMemory;
 use external_event::{Event, Occurrence};
@@ -84,6 +84,16 @@ pub(crate) fn take_due(
     match queue.pop_front() {
         Some(batch) => batch.deliveries,
         None => Vec::new(alloc),
+    }
+}
+
+/// When the first batch arrives, or another time where that is earlier.
+pub(crate) fn first_arrival(queue: &VecDeque<Batch>, limit: u32) -> u32
+    ensures { result ≡ first_arrival limit queue.now.items }
+{
+    match queue.front() {
+        Some(batch) => batch.time.min(limit),
+        None => limit,
     }
 }
 

@@ -1,4 +1,5 @@
-//! The machines on a wire, tick by tick.
+//! The machines on a wire. A tick in which something may happen is made by its parts, in all machines; between them each
+//! runs on by itself, and is ahead of the others.
 ghost use Rattle.std.specs.Prelude.{◌≡◌, ℕ, Vec, ◌≤◌, ◌<◌, ◌+◌, ◌++◌, ◌∷◌, [], IfOk, OnOk, OnErr, false, length, drop, get_or, true};
 ghost use Rattle.std.specs.Global.{Global};
 ghost use Rattle.aegis_limits.specs.Limits.{most_ticks};
@@ -11,11 +12,11 @@ ghost use Rattle.wire_model.specs.Limits.{most_delay, most_machines, most_wire_t
 ghost use Rattle.wire_model.specs.Wire.{Wire, joined, sent_between, wired, world_on_wire};
 ghost use Rattle.wire_net.specs.Course.{AllCameSoFar, AllShow, CameSoFar, IsWireOf};
 ghost use Rattle.wire_net.specs.Delivery.{deliveries_of};
-ghost use Rattle.wire_net.specs.Station.{AreCounted, IsBetween, Happened, Partly, Ticked};
+ghost use Rattle.wire_net.specs.Station.{AreCounted, IsAt, IsThrough, Happened, Partly};
 
-use crate::delivery::{Batch, Delivery, put, take_due};
+use crate::delivery::{Batch, Delivery, first_arrival, put, take_due};
 use crate::sending::{Route, send_new};
-use crate::station::{advance, due};
+use crate::station::{advance, due, run_on};
 use aegis_calls::Board;
 use aegis_limits::OutOfMemory;
 use external_event::Event;
@@ -24,20 +25,23 @@ use std::collections::VecDeque;
 use wire_model::{law_settled, law_tick, law_time};
 use world_model::WorldView;
 
-/// What is still to come for a machine, and what it has on the wire.
+/// Where a machine is, what is still to come for it, and what it has on the wire.
 #[derive(Drop)]
 pub(crate) struct Station<'a> {
+    /// The tick that it makes next.
+    pub time: u32,
     /// The events of its schedule that are to come.
     pub coming: &'a [Event],
     /// How many packets each of its environments has put on the wire.
     pub sent: Vec<usize>,
 }
 
-/// A tick of the machines: which it is, and when what is sent in it arrives.
+/// A tick of the machines: which it is, when what is sent in it arrives, and until when nothing arrives behind it.
 #[derive(Clone, Copy)]
 struct Moment {
     time: u32,
     arrival: u32,
+    until: u32,
 }
 
 /// How many packets each environment of a board sent.
@@ -59,6 +63,7 @@ fn stations_of<'a>(
 ) -> Result<Vec<Station<'a>>, OutOfMemory>
     requires { length schedules.now ≡ length boards.now }
     ensures count { IfOk result (λ stations. length stations.items ≡ length boards.now) }
+    ensures time { IfOk result (λ stations. (i : ℕ) (s : Station) → i < length boards.now → (get_or stations.items i s).time ≡ 0) }
     ensures coming { IfOk result (λ stations. (i : ℕ) (s : Station) (v : Vec EventValue Global) → i < length boards.now → (get_or stations.items i s).coming.now ≡ (get_or schedules.now i v).items) }
     ensures sent { IfOk result (λ stations. (i : ℕ) (s : Station) (b : Shown) → i < length boards.now → AreCounted (get_or boards.now i b) (get_or stations.items i s).sent.items) }
 {
@@ -66,6 +71,7 @@ fn stations_of<'a>(
     for place in 0..boards.len() {
         let sent = sent_counts(alloc, &boards[place])?;
         stations.push(Station {
+            time: 0,
             coming: schedules[place].as_slice(),
             sent,
         })?;
@@ -73,7 +79,8 @@ fn stations_of<'a>(
     Ok(stations)
 }
 
-/// A tick of one machine, if it isn't idle, and what it sends in it.
+/// A tick of one machine, unless it is ahead of it, with what it sends in it. If it isn't idle it makes the tick. Then it
+/// runs on, as long as nothing can happen in it from outside.
 fn tick_one(
     alloc: Global,
     board: &mut Board,
@@ -85,12 +92,16 @@ fn tick_one(
 ) -> Result<(), OutOfMemory>
     requires limit { moment.time < most_ticks }
     requires arrival { moment.arrival ≤ most_ticks }
-    requires between { IsBetween moment.time board.old }
-    requires sent { AreCounted board.old station.old.sent.items }
-    ensures ticked { OnOk result (Ticked machine moment.time due_now.now board.old station.old board.new station.new) }
-    ensures part { OnErr result (Partly machine moment.time due_now.now board.old station.old board.new) }
+    requires until { moment.until ≤ most_ticks }
+    requires later { moment.time ≤ station.old.time }
+    requires here { IsAt station.old board.old }
+    ensures through { OnOk result (IsThrough machine moment.time moment.until due_now.now board.old station.old board.new station.new) }
+    ensures part { OnErr result (Partly machine moment.time moment.until due_now.now board.old station.old board.new) }
     ensures out { OnOk result (out.new.items ≡ out.old.items ++ deliveries_of machine moment.arrival (sent_between (world_of board.old) (world_of board.new))) }
 {
+    if station.time > moment.time {
+        return Ok(());
+    }
     let now = due(station.coming, moment.time);
     station.coming = &station.coming[now.len()..];
     advance(board, now, due_now, machine, moment.time)?;
@@ -99,10 +110,12 @@ fn tick_one(
         time: moment.arrival,
     };
     send_new(alloc, out, route, board, &mut station.sent)?;
+    let next = moment.time + 1;
+    station.time = next + run_on(board, station.coming, next, moment.until);
     Ok(())
 }
 
-/// A tick of all machines.
+/// A tick of all machines but those that are ahead of it.
 fn tick_all(
     alloc: Global,
     boards: &mut [Board],
@@ -115,10 +128,11 @@ fn tick_all(
     requires stations { length stations.old ≡ length boards.old }
     requires limit { moment.time < most_ticks }
     requires arrival { moment.arrival ≤ most_ticks }
-    requires between { (i : ℕ) (b : Shown) → i < length boards.old → IsBetween moment.time (get_or boards.old i b) }
-    requires sent { (i : ℕ) (b : Shown) (s : Station) → i < length boards.old → AreCounted (get_or boards.old i b) (get_or stations.old i s).sent.items }
-    ensures ticked { OnOk result ((i : ℕ) (b : Shown) (s : Station) → i < length boards.old → Ticked i moment.time due_now.now (get_or boards.old i b) (get_or stations.old i s) (get_or boards.new i b) (get_or stations.new i s)) }
-    ensures part { OnErr result ((i : ℕ) (b : Shown) (s : Station) → i < length boards.old → Happened i moment.time due_now.now (get_or boards.old i b) (get_or stations.old i s) (get_or boards.new i b)) }
+    requires until { moment.until ≤ most_ticks }
+    requires later { (i : ℕ) (s : Station) → i < length boards.old → moment.time ≤ (get_or stations.old i s).time }
+    requires here { (i : ℕ) (b : Shown) (s : Station) → i < length boards.old → IsAt (get_or stations.old i s) (get_or boards.old i b) }
+    ensures through { OnOk result ((i : ℕ) (b : Shown) (s : Station) → i < length boards.old → IsThrough i moment.time moment.until due_now.now (get_or boards.old i b) (get_or stations.old i s) (get_or boards.new i b) (get_or stations.new i s)) }
+    ensures part { OnErr result ((i : ℕ) (b : Shown) (s : Station) → i < length boards.old → Happened i moment.time moment.until due_now.now (get_or boards.old i b) (get_or stations.old i s) (get_or boards.new i b)) }
     ensures out { (b : Shown) → OnOk result (out.new.items ≡ out.old.items ++ joined (λ i. deliveries_of i moment.arrival (sent_between (world_of (get_or boards.old i b)) (world_of (get_or boards.new i b)))) (length boards.old)) }
     ensures count { length boards.new ≡ length boards.old }
     ensures stations { length stations.new ≡ length stations.old }
@@ -129,6 +143,19 @@ fn tick_all(
         tick_one(alloc, board, station, due_now, place as u8, moment, out)?;
     }
     Ok(())
+}
+
+/// The first tick that one of these machines makes next, or another where that is earlier.
+fn first_tick(stations: &[Station<'_>], until: u32) -> u32
+    ensures most { result ≤ until }
+    ensures each { (i : ℕ) (s : Station) → i < length stations.now → result ≤ (get_or stations.now i s).time }
+    ensures least { (t : ℕ) → t ≤ until → ((i : ℕ) (s : Station) → i < length stations.now → t ≤ (get_or stations.now i s).time) → t ≤ result }
+{
+    let mut first = until;
+    for station in stations {
+        first = first.min(station.time);
+    }
+    first
 }
 
 /// Runs freshly booted boards for so many ticks as machines on a wire, each with its schedule. What an environment sends
@@ -159,19 +186,19 @@ pub fn wire(
     law_time();
     let mut stations = stations_of(alloc, boards, schedules)?;
     let mut under_way = VecDeque::new(alloc);
-    for time in 0..ticks {
+    let mut time = 0;
+    while time < ticks {
         let arrival = time + delay;
         let due_now = take_due(alloc, &mut under_way, time, arrival);
+        let moment = Moment {
+            time,
+            arrival,
+            until: first_arrival(&under_way, arrival.min(ticks)),
+        };
         let mut out = Vec::new(alloc);
-        tick_all(
-            alloc,
-            boards,
-            &mut stations,
-            &due_now,
-            Moment { time, arrival },
-            &mut out,
-        )?;
+        tick_all(alloc, boards, &mut stations, &due_now, moment, &mut out)?;
         put(&mut under_way, arrival, out)?;
+        time = first_tick(&stations, moment.until);
     }
     Ok(())
 }

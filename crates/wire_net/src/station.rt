@@ -1,5 +1,5 @@
 //! A machine on the wire, in its ticks.
-ghost use Rattle.std.specs.Prelude.{◌≡◌, ◌<◌, ◌+◌, ◌==◌, ◌++◌, ◌∷◌, [], false, OnOk, OnErr};
+ghost use Rattle.std.specs.Prelude.{◌≡◌, ◌≤◌, ◌<◌, ◌+◌, ◌-◌, ◌==◌, ◌++◌, ◌∷◌, [], false, OnOk, OnErr};
 ghost use Rattle.std.specs.List.{prefix_len, take_while};
 ghost use Rattle.aegis_limits.specs.Limits.{most_ticks};
 ghost use Rattle.board_model.specs.Showing.{world_of};
@@ -7,10 +7,10 @@ ghost use Rattle.board_model.specs.Ticks.{IsSameTick, IsTicked, MayHappen, MayTi
 ghost use Rattle.external_event.specs.EventValue.{EventValue};
 ghost use Rattle.world_model.specs.Book.{is_idle_book};
 ghost use Rattle.world_model.specs.Tick.{tick_step};
-ghost use Rattle.aegis_tick.specs.Course.{HappenedInPart, occurrences, world_with};
+ghost use Rattle.aegis_tick.specs.Course.{HappenedInPart, next_time_of, occurrences, world_with};
 ghost use Rattle.wire_model.specs.Wire.{after_tick};
 ghost use Rattle.wire_net.specs.Delivery.{arriving};
-ghost use Rattle.wire_net.specs.Station.{IsBetween};
+ghost use Rattle.wire_net.specs.Station.{AreSilent, IsBetween};
 
 use crate::delivery::Delivery;
 use aegis_calls::Board;
@@ -30,6 +30,16 @@ pub(crate) fn due<'a>(coming: &'a [Event], time: u32) -> &'a [Event]
     ensures { result.now ≡ take_while (λ (e : EventValue). e.time == time) coming.now }
 {
     &coming[..count_at(coming, time)]
+}
+
+/// The time of the first of these events, or a time behind every tick, if there is none.
+fn next_time(coming: &[Event]) -> u32
+    ensures { result ≡ next_time_of coming.now }
+{
+    match coming.first() {
+        Some(event) => event.time,
+        None => u32::MAX,
+    }
 }
 
 /// These events, one after another.
@@ -111,4 +121,22 @@ pub(crate) fn advance(
         return Ok(());
     }
     tick_with(board, events, due, machine)
+}
+
+/// Runs a machine on from a tick, as long as its runner steps and nothing else happens: before the next of its events
+/// and until another tick at most. The result is how many ticks it made, in which nobody sends. An idle machine stays as
+/// it is in all of them.
+pub(crate) fn run_on(board: &mut Board, coming: &[Event], from: u32, until: u32) -> u32
+    requires limit { until ≤ most_ticks }
+    requires between { IsBetween from board.old }
+    ensures silent { AreSilent from result (world_of board.old) (world_of board.new) }
+    ensures between { IsBetween (from + result) board.new }
+    ensures before_event { result ≤ next_time_of coming.now - from }
+    ensures before_arrival { result ≤ until - from }
+{
+    let most = until.min(next_time(coming)).saturating_sub(from);
+    if most == 0 || board.idle() {
+        return most;
+    }
+    board.stretch(most)
 }
