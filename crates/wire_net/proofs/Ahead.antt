@@ -10,7 +10,6 @@ use Rattle.run_model.specs.Run.{next_world, world_after_ticks}
 use Rattle.board_model.specs.Shown.{Shown}
 use Rattle.board_model.specs.Showing.{world_of}
 use Rattle.board_model.specs.Stretch.{IsQuiet, IsSteady}
-use Rattle.aegis_calls.specs.QuietTicks.{AreQuietTicks, AreSteadyTicks}
 use Rattle.wire_model.specs.Laws.{BeginAtZero}
 use Rattle.wire_model.specs.Wire.{Wire, arrivals, joined, sent_between, wired, world_on_wire}
 use Rattle.wire_net.specs.Delivery.{arriving}
@@ -48,13 +47,6 @@ none_are_silent from ticks w none = record {
   steady = λ schedule k quiet within.
       let first : 0 ≡ k = omega arith in
       subst (λ (n : ℕ). IsSteady w (world_after_ticks schedule w n)) first (steady_itself w);
-}
-
--- a stretch is silent
-pub stretch_is_silent : (from ticks : ℕ) (b c : Shown) → b.time ≡ from → AreQuietTicks b c ticks → AreSteadyTicks b ticks → AreSilent from ticks (world_of b) (world_of c)
-stretch_is_silent from ticks b c at quietly steadily = record {
-  world = λ schedule quiet. quietly schedule (subst (λ (n : ℕ). IsQuiet schedule n (n + ticks)) (sym at) quiet);
-  steady = λ schedule k quiet within. (steadily schedule (subst (λ (n : ℕ). IsQuiet schedule n (n + ticks)) (sym at) quiet)).stays k within;
 }
 
 -- behind silent ticks nobody has sent more
@@ -96,9 +88,6 @@ pub record IsWorldAt (net : Wire) (i t later : ℕ) (w : World) : Type 0 where
 -- so it is from a later time on
 pub world_from : (net : Wire) (i t next later : ℕ) (w : World) → t ≤ next → IsWorldAt net i t later w → IsWorldAt net i next later w
 world_from net i t next later w after at = record { world = at.world; silent = λ u from before. at.silent u (omega arith) before }
-
-pub world_now : (net : Wire) (i t : ℕ) (w : World) → w ≡ world_on_wire net i t → IsWorldAt net i t t w
-world_now net i t w is = record { world = is; silent = λ u from before. absurd (omega arith) }
 
 module _ (laws : Laws) (net : Wire) (i : ℕ) (zeros : BeginAtZero net) (inside : i < net.count) where
   -- where its schedule says nothing and nothing comes for it, nothing happens in it from outside

@@ -15,7 +15,7 @@ use Rattle.wire_net.specs.declared.net.Station.{Station}
 use Rattle.wire_net.specs.Course.{AllCameSoFar, AllShow, IsWireOf}
 use Rattle.wire_net.specs.Delivery.{due_at, rise_between}
 use Rattle.wire_net.specs.Station.{Happened, IsThrough}
-use Rattle.wire_net.proofs.Ahead.{IsWorldAt, world_from, world_now}
+use Rattle.wire_net.proofs.Ahead.{IsWorldAt, world_from}
 use Rattle.wire_net.proofs.Machine.{IsPlaced, IsReady, IsUntil, came_when, placed_from, placed_next, sent_now, shown_next}
 use Rattle.wire_net.proofs.Queue.{none_from}
 use Rattle.wire_net.proofs.Ticking.{sends}
@@ -81,11 +81,6 @@ module _ (laws : Laws) (first : List Shown) (events : List (Vec EventValue Globa
 
   pub all_came_first : (limit : ℕ) → AllCameSoFar net limit first
   all_came_first limit i b within = came_to laws.worlds net i 0 limit (world_of (get_or first i b)) zeros (inside i within) (omega arith) (shown_first first events delay net is i b within)
-
-  pub all_ahead_first : (stations : List Station) → ((i : ℕ) (s : Station) → i < length first → (get_or stations i s).time ≡ 0) → AllAhead net 0 first stations
-  all_ahead_first stations begin i b s within =
-      subst (λ (n : ℕ). IsWorldAt net i 0 n (world_of (get_or first i b))) (sym (begin i s within))
-      (world_now net i 0 (world_of (get_or first i b)) (shown_first first events delay net is i b within))
 
   pub all_ahead_from : (t next : ℕ) (boards : List Shown) (stations : List Station) → t ≤ next → AllAhead net t boards stations → AllAhead net next boards stations
   all_ahead_from t next boards stations later ahead i b s within = world_from net i t next (get_or stations i s).time (world_of (get_or boards i b)) later (ahead i b s within)
