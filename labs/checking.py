@@ -213,13 +213,12 @@ class Lab:
         self.source, self.folder, self.room = os.path.abspath(source), folder, room
         self.shown = shown(source)
         self.name = os.path.basename(folder)
-        self.machines = 0
+        self.folders = 0
 
-    def machine(self, manifest: str, values: Optional[Values] = None, quantum: Optional[int] = None) -> Machine:
-        """The machine of a manifest, in which these values stand in place of the sources' own, and slices are as long
-        as its own or as this quantum."""
-        self.machines += 1
-        room = f"{self.room}/{self.machines}"
+    def folder_of(self, values: Values) -> str:
+        """A folder with the exercise's files and the source, all assembled with these values in place of the sources' own."""
+        self.folders += 1
+        room = f"{self.room}/{self.folders}"
         os.mkdir(room)
         for name in os.listdir(self.folder):
             if name.endswith((".s", ".txt")):
@@ -228,7 +227,13 @@ class Lab:
         shutil.copyfile(self.source, f"{room}/{self.name}.s")
         for name in sorted(os.listdir(room)):
             if name.endswith(".s"):
-                self.assemble(room, name, (values or {}).get(name, {}))
+                self.assemble(room, name, values.get(name, {}))
+        return room
+
+    def machine(self, manifest: str, values: Optional[Values] = None, quantum: Optional[int] = None) -> Machine:
+        """The machine of a manifest, in which these values stand in place of the sources' own, and slices are as long
+        as its own or as this quantum."""
+        room = self.folder_of(values or {})
         with open(f"{room}/{manifest}", encoding="ascii") as file:
             text = file.read()
         if quantum is not None:

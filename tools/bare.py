@@ -1,4 +1,4 @@
-"""Bare boards, for tools/try: a source becomes a flat file, which runs without the kernel (docs/BARE.md)."""
+"""Bare boards, for tools/try and the checkers of labs/: a source becomes a flat file, which runs without the kernel (docs/BARE.md)."""
 
 from __future__ import annotations
 
@@ -30,10 +30,16 @@ class Ended:
     time: int
     console: bytes
     pc: int
-    cause: int
-    epc: int
+    hi: int
+    lo: int
+    registers: List[int]  # $0 first
     bad: int
+    process: int  # the PID of EntryHi
+    status: int
+    cause: int  # the code
+    epc: int
     memory: str  # its fingerprint
+    rows: List[Tuple[int, int]]
 
 
 def flat(elf: bytes) -> Tuple[bytes, bool]:
@@ -51,13 +57,22 @@ def unescaped(text: str) -> bytes:
     return b"".join(bytes.fromhex(digits) if digits else names[name] if name else plain.encode("latin-1") for digits, name, plain in parts)
 
 
+def words(line: str) -> List[int]:
+    """The numbers of a line, which are hexadecimal."""
+    return [int(word, 16) for word in line.split()]
+
+
 def read(said: str) -> Ended:
     """What `bare` wrote."""
-    lines = dict(line.partition(" ")[::2] for line in said.splitlines() if not line.startswith("row "))
+    texts = said.splitlines()
+    lines = dict(line.partition(" ")[::2] for line in texts if not line.startswith("row "))
     how, time = lines["end"].split()
-    cp0 = [int(word, 16) for word in lines["cp0"].split()]
+    _, _, _, _, bad, entry_hi, status, cause, epc = words(lines["cp0"])
+    pc, _, _, hi, lo = words(lines["cpu"])
     text = re.fullmatch(r'\d+ "(.*)"', lines["out"])
-    return Ended(how, int(time), unescaped(text[1]), int(lines["cpu"].split()[0], 16), cp0[7] >> 2 & 31, cp0[8], cp0[4], lines["ram"])
+    rows = [(row[1], row[2]) for row in (words(line[4:]) for line in texts if line.startswith("row "))]
+    return Ended(how, int(time), unescaped(text[1]), pc, hi, lo, [0, *words(lines["regs"])], bad, entry_hi >> 6 & 63, status, cause >> 2 & 31, epc,
+                 lines["ram"], rows)
 
 
 def place(path: str, source: Source, listing: Dict[int, str], address: int) -> List[str]:
