@@ -1,0 +1,4 @@
+//! The course of the TLB in a run, by the worlds of the model: what each phase of a tick makes of its rows, of Random and
+//! of the fills, and what a whole run does. The definitions stand in `specs/` (`docs/MACHINE.md`, "The TLB under the
+//! kernel").
+#![tactic(auto)]
