@@ -21,14 +21,19 @@ use Rattle.tlb_model.specs.declared.fills.Fills.{Fills}
 use Rattle.r3k_tlb.specs.Rows.{with_row_at}
 use Rattle.tlb_model.specs.Cache.{row_for, with_fills, with_forwarded, with_random_fallen, with_refill}
 use Rattle.tlb_model.specs.Lookups.{is_missed, mapping_of_miss}
-use Rattle.r3k_machine.specs.Steps.{RowStepsRetire}
+use Rattle.r3k_machine.specs.Steps.{RowStepsRetire, after_row_steps}
+use Rattle.slot_vector.specs.Slices.{left_of}
+use Rattle.tlb_model.specs.Lookups.{first_missing}
+use Rattle.board_model.specs.Stretch.{stretched}
+use Rattle.aegis_calls.proofs.Stretched.{stretch_sound}
+use Rattle.aegis_calls.specs.Cached.{FindRows}
 use Rattle.tlb_laws.specs.Laws.{RunIsFlat, RunsFor, end_without_refill}
 use Rattle.tlb_laws.proofs.Running.{runs_are_flat}
 use Rattle.tlb_laws.proofs.Ending.{Missed, flat_end, missed_end}
 use Rattle.board_model.specs.Shown.{Shown, mappings_of}
 use Rattle.board_model.specs.Sound.{IsSoundBoard, RowsAgree}
 use Rattle.board_model.specs.Doing.{lookup_of, step_seen}
-use Rattle.board_model.specs.Refilling.{IsAttempted, IsRefilled, fills_after_miss, is_kept_by, rows_after_miss}
+use Rattle.board_model.specs.Refilling.{IsAttempted, IsRefilled, fills_after_miss, is_kept_by, rows_after_miss, vpns_of}
 use Rattle.board_model.proofs.Refills.{lookup_number, refilled_rows, runs_for}
 use Rattle.board_model.proofs.Staying.{sound_frames, sound_machine, sound_tlb}
 
@@ -225,10 +230,26 @@ module _ (b : Shown) (e : ℕ) (m n : Machine) (frames : List (List ℕ)) (made 
 -- ---- many steps that retire
 
 -- What the machine, in user mode for an environment, made of a run on a sound board.
-pub run_made : (b : Shown) (e : ℕ) (first m n : Machine) (frames : List (List ℕ)) (steps : ℕ) → first.cpu ≡ b.cpu → first.tlb ≡ b.tlb.rows → first.cp0.random ≡ b.tlb.random
-    → IsSoundBoard b → e < environment_numbers → m ≡ as_user first e → is_user m.cp0 ≡ true → current_pid m.cp0 ≡ e
-    → RowStepsRetire m.cp0 m.tlb (record { cpu = m.cpu; frames = b.frames }) steps → RunIsFlat (lookup_of b e) m.cp0 b.tlb.rows b.frames b.cpu steps
-run_made b e first m n frames steps cpu rows random sound small is user pid retire =
-    runs_are_flat (lookup_of b) e m.cp0 b.tlb.rows b.frames b.cpu steps (runs_for b e m.cp0 sound small pid user)
-    (subst (λ c. RowStepsRetire m.cp0 b.tlb.rows (record { cpu = c; frames = b.frames }) steps) (ap (λ (x : Machine). x.cpu) is ∙ cpu)
-    (subst (λ rs. RowStepsRetire m.cp0 rs (record { cpu = m.cpu; frames = b.frames }) steps) (ap (λ (x : Machine). x.tlb) is ∙ rows) retire))
+module _ (b : Shown) (e : ℕ) (first m : Machine) (steps : ℕ) (cpu : first.cpu ≡ b.cpu) (rows : first.tlb ≡ b.tlb.rows) (sound : IsSoundBoard b) (small : e < environment_numbers) (is : m ≡ as_user first e)
+    (user : is_user m.cp0 ≡ true) (pid : current_pid m.cp0 ≡ e) (retire : RowStepsRetire m.cp0 m.tlb (record { cpu = m.cpu; frames = b.frames }) steps) where
+  all_retire : RowStepsRetire m.cp0 b.tlb.rows (record { cpu = b.cpu; frames = b.frames }) steps
+  all_retire =
+      subst (λ c. RowStepsRetire m.cp0 b.tlb.rows (record { cpu = c; frames = b.frames }) steps) (ap (λ (x : Machine). x.cpu) is ∙ cpu)
+      (subst (λ rs. RowStepsRetire m.cp0 rs (record { cpu = m.cpu; frames = b.frames }) steps) (ap (λ (x : Machine). x.tlb) is ∙ rows) retire)
+
+  pub run_made : RunIsFlat (lookup_of b e) m.cp0 b.tlb.rows b.frames b.cpu steps
+  run_made = runs_are_flat (lookup_of b) e m.cp0 b.tlb.rows b.frames b.cpu steps (runs_for b e m.cp0 sound small pid user) all_retire
+
+  -- each of its accesses found its row
+  found_at : (k : ℕ) → k < steps → steps < left_of b.slots.runner → first_missing b.tlb.rows e (vpns_of (stretched b e k) e) ≡ None
+  found_at k less left =
+      let v = stretched b e k in
+      let s = after_row_steps m.cp0 b.tlb.rows (record { cpu = b.cpu; frames = b.frames }) k in
+      let flat = runs_are_flat (lookup_of b) e m.cp0 b.tlb.rows b.frames b.cpu k (runs_for b e m.cp0 sound small pid user) (record { each = λ j below. all_retire.each j (omega arith) }) in
+      let retired : outcome_of (row_step m.cp0 b.tlb.rows v.frames v.cpu) ≡ outcome.Retired =
+      ap (λ c. outcome_of (row_step m.cp0 b.tlb.rows v.frames c)) (sym flat.registers) ∙ ap (λ f. outcome_of (row_step m.cp0 b.tlb.rows f s.cpu)) (sym flat.memory) ∙ all_retire.each k less in
+      (flat_end (lookup_of v) e m.cp0 b.tlb.rows v.frames v.cpu (runs_for v e m.cp0 (stretch_sound b e k sound (omega arith)) small pid user)
+      (λ exc is. not_refill outcome.Retired exc (sym (ap (end_of m.cp0 b.tlb.rows) retired) ∙ is))).found
+
+  pub run_found : steps < left_of b.slots.runner → FindRows b e steps
+  run_found left = record { each = λ k less. found_at k less left }

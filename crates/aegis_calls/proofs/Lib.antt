@@ -1,2 +1,6 @@
 mod Runner
 mod Attempts
+mod Emptying
+mod Looking
+mod Stretched
+mod Plain

@@ -6,6 +6,7 @@ ghost use Rattle.aegis_limits.specs.VersionLimits.{most_environments_of};
 ghost use Rattle.page_book.specs.Rows.{free_pages};
 ghost use Rattle.run_model.specs.Boot.{bare_world, with_program};
 ghost use Rattle.board_model.specs.Showing.{world_of};
+ghost use Rattle.tlb_model.specs.Cache.{boot_cache};
 
 use crate::board::Board;
 use aegis_limits::{ENVIRONMENT_NUMBERS, OutOfMemory, Version, law_versions_are_within};
@@ -40,6 +41,7 @@ impl Board {
         requires owners { All (λ owner. IfSome owner (λ e. e < envs)) slots.now }
         ensures world { IfOk result (λ b. world_of b ≡ bare_world version pages quantum slots.now) }
         ensures bare { IfOk result (IsBare pages envs) }
+        ensures tlb { IfOk result (λ b. b.tlb ≡ boot_cache) }
         ensures numbers { IfOk result (λ b. b.claims.next ≡ 0) }
     {
         law_versions_are_within();
@@ -72,6 +74,7 @@ impl Board {
         ensures free { free_pages self.old.pages ≡ free_pages self.new.pages + guaranteed_mappings program.now }
         ensures spare { self.new.roster.spare ≡ self.old.roster.spare - 1 }
         ensures pages { length self.new.frames ≡ length self.old.frames }
+        ensures tlb { self.new.tlb ≡ self.old.tlb }
         ensures numbers { self.new.claims.next ≡ self.old.claims.next }
     {
         let number = self.roster.len() as u8;

@@ -3,8 +3,11 @@ ghost use Rattle.std.specs.Prelude.{◌≡◌, ◌+◌, ◌<◌, ◌≤◌, IsSo
 ghost use Rattle.aegis_limits.specs.Limits.{most_ticks};
 ghost use Rattle.external_event.specs.EventValue.{is_occurrence};
 ghost use Rattle.world_model.specs.Book.{is_idle_book, running};
+ghost use Rattle.world_model.specs.Step.{Dies};
+ghost use Rattle.aegis_calls.specs.Cached.{IsCallCached};
 ghost use Rattle.world_model.specs.Event.{happen as event_phase};
 ghost use Rattle.world_model.specs.World.{after};
+ghost use Rattle.tlb_course.specs.Course.{cache_acted, cache_served, cache_stepped, cache_timed};
 ghost use Rattle.world_model.specs.Tick.{served, turn as turn_phase, step as step_phase, timer as timer_phase, died, IsAgain, IsCalled, IsRefused};
 
 use crate::board::Board;
@@ -44,6 +47,7 @@ impl Board {
         requires time { self.old.time ≤ most_ticks }
         requires room { STEP_ROWS ≤ self.old.ledger.spare }
         ensures world { world_of self.new ≡ after (world_of self.old) (event_phase what.now (world_of self.old)) }
+        ensures tlb { self.new.tlb ≡ self.old.tlb }
         ensures time { self.new.time ≡ self.old.time }
         ensures numbers { self.new.claims.next ≡ self.old.claims.next }
         ensures whole { self.new.roster.spare ≡ self.old.roster.spare }
@@ -67,6 +71,7 @@ impl Board {
     pub fn serve(&mut self)
         requires room { SERVE_ROWS ≤ self.old.ledger.spare }
         ensures world { world_of self.new ≡ served (world_of self.old) }
+        ensures tlb { self.new.tlb ≡ cache_served (world_of self.old) self.old.tlb }
         ensures idle { is_idle_book (world_of self.new).book ≡ is_idle_book (world_of self.old).book }
         ensures time { self.new.time ≡ self.old.time }
         ensures numbers { self.new.claims.next ≡ self.old.claims.next }
@@ -85,6 +90,7 @@ impl Board {
         requires whole { self.old.roster.spare ≡ 0 }
         requires room { TURN_ROWS ≤ self.old.ledger.spare }
         ensures world { world_of self.new ≡ after (world_of self.old) (turn_phase (world_of self.old)) }
+        ensures tlb { self.new.tlb ≡ self.old.tlb }
         ensures runs { is_idle_book (world_of self.old).book ≡ false → IsSome (world_of self.new).book.runner }
         ensures time { self.new.time ≡ self.old.time }
         ensures numbers { self.new.claims.next ≡ self.old.claims.next }
@@ -101,6 +107,7 @@ impl Board {
         requires room { STEP_ROWS ≤ self.old.ledger.spare }
         requires numbers { self.old.claims.next ≤ self.old.time }
         ensures world { world_of self.new ≡ after (world_of self.old) (step_phase (world_of self.old)) }
+        ensures tlb { self.new.tlb ≡ cache_stepped (world_of self.old) self.old.tlb }
         ensures time { self.new.time ≡ self.old.time }
         ensures numbers { self.new.claims.next ≤ self.old.claims.next + 1 }
         ensures whole { self.new.roster.spare ≡ self.old.roster.spare }
@@ -121,6 +128,7 @@ impl Board {
         requires time { self.old.time < most_ticks }
         requires room { STEP_ROWS ≤ self.old.ledger.spare }
         ensures world { world_of self.new ≡ after (world_of self.old) (timer_phase (world_of self.old)) }
+        ensures tlb { self.new.tlb ≡ cache_timed (world_of self.old) self.old.tlb }
         ensures time { self.new.time ≡ self.old.time + 1 }
         ensures numbers { self.new.claims.next ≡ self.old.claims.next }
         ensures whole { self.new.roster.spare ≡ self.old.roster.spare }
@@ -141,6 +149,7 @@ impl Board {
         ensures world { IsCalled (world_of self.old) (world_of self.new) }
         ensures refused { IsRefused (world_of self.old) (world_of self.new) }
         ensures again { IsAgain (world_of self.old) (world_of self.new) }
+        ensures tlb { IsCallCached self.old self.new }
         ensures time { self.new.time ≡ self.old.time }
         ensures numbers { self.new.claims.next ≤ self.old.claims.next + 1 }
         ensures whole { self.new.roster.spare ≡ self.old.roster.spare }
@@ -163,6 +172,7 @@ impl Board {
         requires runs { running (world_of self.old).book.runner ≡ Some env }
         requires room { CALL_ROWS ≤ self.old.ledger.spare }
         ensures world { world_of self.new ≡ died (world_of self.old) env cause }
+        ensures tlb { self.new.tlb ≡ cache_acted (world_of self.old) env (Dies cause) self.old.tlb }
         ensures time { self.new.time ≡ self.old.time }
         ensures numbers { self.new.claims.next ≡ self.old.claims.next }
         ensures whole { self.new.roster.spare ≡ self.old.roster.spare }

@@ -1,7 +1,10 @@
 //! What the layers above read of a board.
 ghost use Rattle.std.specs.Prelude.{◌≡◌, ◌<◌, ◌≤◌, Some, OnOk, OnErr, IsOk, length, slice_get};
 ghost use Rattle.std.specs.Option.{option_map};
+ghost use Rattle.aegis_limits.specs.Limits.{environment_numbers};
 ghost use Rattle.board_model.specs.Shown.{with_spare};
+ghost use Rattle.r3k_cp0.specs.Random.{first_random, random_end};
+ghost use Rattle.tlb_model.specs.Cache.{fills_of};
 
 use crate::board::Board;
 use aegis_limits::OutOfMemory;
@@ -12,7 +15,9 @@ use frame_store::Frames;
 use kernel_journal::Row;
 use mips_exec::Cpu;
 use page_book::Pages;
+use r3k_tlb::Tlb;
 use slot_vector::Slots;
+use tlb_model::Fills;
 use world_model::{Life, PageView, WorldView};
 
 impl Board {
@@ -52,6 +57,30 @@ impl Board {
         ensures { option_map (λ x. x.env) (slice_get self.now.roster.list env) ≡ Some result.now }
     {
         &self.roster.at(env).env
+    }
+
+    /// The rows of the TLB.
+    pub fn tlb(&self) -> &Tlb
+        ensures { result.now ≡ self.now.tlb.rows }
+    {
+        &self.machine.tlb
+    }
+
+    /// The row that the next refill takes, from 8 to 63.
+    pub fn random(&self) -> u8
+        ensures row { result ≡ self.now.tlb.random }
+        ensures least { first_random ≤ result }
+        ensures within { result < random_end }
+    {
+        self.machine.random()
+    }
+
+    /// How often the environment of this number was refilled, and how many of its misses were forwarded.
+    pub fn fills(&self, env: u8) -> Fills
+        requires { env < environment_numbers }
+        ensures { result ≡ fills_of self.now.tlb.fills env }
+    {
+        self.fills[env as usize]
     }
 
     /// Takes memory for so many rows of the ledger more, where it isn't there yet. Nothing else changes, so

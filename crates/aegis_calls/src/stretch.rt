@@ -3,6 +3,7 @@ ghost use Rattle.std.specs.Prelude.{◌≡◌, ◌≤◌, ◌+◌, Some};
 ghost use Rattle.aegis_limits.specs.Limits.{most_ticks};
 ghost use Rattle.world_model.specs.Book.{is_idle_book, running};
 ghost use Rattle.board_model.specs.Stretch.{ArePlain, stretched};
+ghost use Rattle.aegis_calls.specs.Cached.{AreCachedTicks, FindRows};
 ghost use Rattle.aegis_calls.specs.QuietTicks.{AreQuietTicks, AreSteadyTicks};
 
 use crate::board::Board;
@@ -19,6 +20,7 @@ impl Board {
         requires time { self.old.time + most ≤ most_ticks }
         ensures after { self.new ≡ stretched self.old env result }
         ensures plain { ArePlain self.old env result }
+        ensures found { FindRows self.old env result }
         ensures most { result ≤ most }
     {
         let most = plain_most(&self.slots, &self.revocations, self.time.ticks(), most);
@@ -37,6 +39,7 @@ impl Board {
         requires time { self.old.time + most ≤ most_ticks }
         ensures world { AreQuietTicks self.old self.new result }
         ensures steady { AreSteadyTicks self.old result }
+        ensures tlb { AreCachedTicks self.old self.new result }
         ensures idle { is_idle_book (world_of self.new).book ≡ is_idle_book (world_of self.old).book }
         ensures most { result ≤ most }
         ensures time { self.new.time ≡ self.old.time + result }

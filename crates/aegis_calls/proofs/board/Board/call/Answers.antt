@@ -8,6 +8,8 @@ use Rattle.board_model.specs.Shown.{Shown}
 use Rattle.board_model.specs.Showing.{world_of}
 use Rattle.board_model.specs.Sound.{HasRunner}
 use Rattle.board_model.proofs.Serving.{called_leaves}
+use Rattle.tlb_course.specs.Course.{cache_called}
+use Rattle.aegis_calls.proofs.Emptying.{called_empties}
 use Rattle.aegis_calls.proofs.board.Board.call.Goals as goal
 
 -- one runner is the runner
@@ -36,6 +38,7 @@ returns-in-Some c =
           ap world_of after
           ∙ c.law_again_answered.ensures b e who has numbers (ap (verdict_now w) same ∙ asks)
           ∙ ap (λ n. tick.again_world w n who) same;
+      tlb = λ i is. ap (λ (s : Shown). s.tlb) after ∙ called_empties b e has ∙ ap (λ n. cache_called w n b.tlb) (one e i (sym runs ∙ is));
       time = ap (λ (s : Shown). s.time) after ∙ leaves.time;
       numbers = omega (arith, leaves.numbers, ap (λ (s : Shown). s.claims.next) after);
       whole = ap (λ (s : Shown). s.roster.spare) after ∙ leaves.spare;

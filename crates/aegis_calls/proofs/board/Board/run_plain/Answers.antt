@@ -11,18 +11,27 @@ use Rattle.tlb_laws.specs.Laws.{RunIsFlat}
 use Rattle.board_model.specs.Shown.{Shown}
 use Rattle.board_model.specs.Doing.{lookup_of}
 use Rattle.board_model.specs.Stretch.{ArePlain, stretched}
-use Rattle.aegis_calls.proofs.Attempts.{run_made}
+use Rattle.aegis_limits.specs.Limits.{environment_numbers}
+use Rattle.aegis_calls.specs.Cached.{FindRows}
+use Rattle.aegis_calls.proofs.Attempts.{run_found, run_made}
 use Rattle.aegis_calls.proofs.Runner.{runner_live, seen}
 use Rattle.aegis_calls.proofs.board.Board.run_plain.Goals as goal
 
 has_ticks : (o : Option Runner) → HasTicks o → (e : ℕ) → running o ≡ Some e → 0 < left_of o
 has_ticks o has e runs = search rules
 
+small : (c : goal.After-pass-2) → c.args.env < environment_numbers
+small c = omega (arith, (runner_live c.self.view_is c.self.invariant c.requires.runs).0, c.self.invariant.few)
+
 flat : (c : goal.After-pass-2) → RunIsFlat (lookup_of (seen c.self.view_is) c.args.env) c.set_user.new.self.cp0 c.self.inside.machine.tlb c.self.inside.frames c.self.inside.machine.cpu c.run-ticks.result
 flat c =
-    run_made (seen c.self.view_is) c.args.env c.self.inside.machine c.set_user.new.self c.run-ticks.new.self c.run-ticks.new.frames c.run-ticks.result refl refl refl c.self.invariant
-    (omega (arith, (runner_live c.self.view_is c.self.invariant c.requires.runs).0, c.self.invariant.few))
+    run_made (seen c.self.view_is) c.args.env c.self.inside.machine c.set_user.new.self c.run-ticks.result refl refl c.self.invariant (small c)
     c.set_user.ensures.machine c.set_user.ensures.user c.set_user.ensures.pid c.run-ticks.ensures.retire
+
+left : (c : goal.After-pass-2) → c.run-ticks.result < left_of c.self.inside.slots.runner
+left c =
+    let some : 0 < left_of c.self.inside.slots.runner = has_ticks c.self.inside.slots.runner c.self.invariant.book.ticks c.args.env (ap (λ (s : Shown). running s.slots.runner) c.self.view_is ∙ c.requires.runs) in
+    omega (arith, c.run-ticks.ensures.most, c.plain_most-most.ensures.left, some)
 
 pub returns-clause-after : goal.returns-clause-after
 returns-clause-after c =
@@ -42,6 +51,11 @@ returns-clause-after c =
 
 pub returns-clause-plain : goal.returns-clause-plain
 returns-clause-plain c =
-    let some : 0 < left_of c.self.inside.slots.runner = has_ticks c.self.inside.slots.runner c.self.invariant.book.ticks c.args.env (ap (λ (s : Shown). running s.slots.runner) c.self.view_is ∙ c.requires.runs) in
     subst (λ (s : Shown). ArePlain s c.args.env c.run-ticks.result) c.self.view_is
-    (record { retire = (flat c).retire; left = omega (arith, c.run-ticks.ensures.most, c.plain_most-most.ensures.left, some); early = omega (arith, c.run-ticks.ensures.most, c.plain_most-most.ensures.early, c.ticks.ensures.ticks) })
+    (record { retire = (flat c).retire; left = left c; early = omega (arith, c.run-ticks.ensures.most, c.plain_most-most.ensures.early, c.ticks.ensures.ticks) })
+
+pub returns-clause-found : goal.returns-clause-found
+returns-clause-found c =
+    subst (λ (s : Shown). FindRows s c.args.env c.run-ticks.result) c.self.view_is
+    (run_found (seen c.self.view_is) c.args.env c.self.inside.machine c.set_user.new.self c.run-ticks.result refl refl c.self.invariant (small c)
+    c.set_user.ensures.machine c.set_user.ensures.user c.set_user.ensures.pid c.run-ticks.ensures.retire (left c))

@@ -10,6 +10,7 @@ use Rattle.board_model.proofs.Refills.{lookups_sound}
 use Rattle.board_model.proofs.Serving.{Leaves}
 use Rattle.board_model.proofs.Stepping.{came_leaves}
 use Rattle.aegis_calls.proofs.Runner.{runner_there}
+use Rattle.aegis_calls.proofs.Looking.{stepped_course}
 use Rattle.aegis_calls.proofs.board.Board.step.Goals as goal
 
 pub returns-in-Some : goal.returns-in-Some
@@ -23,6 +24,7 @@ returns-in-Some c =
     let now = c.run_step.ensures in
     record {
       world = ap world_of now ∙ c.law_step.ensures (with_lookups b e) e has c.law_claim_numbers.ensures;
+      tlb = ap (λ (s : Shown). s.tlb) now ∙ stepped_course b e (record { sound = c.law_sound.ensures; runs = runs }) b.slots.runner runs;
       time = ap (λ (s : Shown). s.time) now ∙ leaves.time;
       numbers = omega (arith, ap (λ (s : Shown). s.claims.next) now, leaves.numbers);
       whole = ap (λ (s : Shown). s.roster.spare) now ∙ leaves.spare;

@@ -4,6 +4,8 @@ use Rattle.board_model.specs.Showing.{world_of}
 use Rattle.board_model.proofs.Counting.{counted_counts}
 use Rattle.board_model.proofs.Turning.{counted_world}
 use Rattle.board_model.proofs.Numbering.{timer_claims}
+use Rattle.board_model.specs.Shown.{Shown}
+use Rattle.aegis_calls.proofs.Emptying.{counted_empties}
 use Rattle.aegis_calls.proofs.board.Board.timer.Goals as goal
 
 pub returns-clause-world : goal.returns-clause-world
@@ -20,3 +22,6 @@ returns-clause-room c = rw c.count.ensures (counted_counts c.args.self.now c.law
 
 pub returns-clause-numbers : goal.returns-clause-numbers
 returns-clause-numbers c = search (rules, counted_world, timer_claims)
+
+pub returns-clause-tlb : goal.returns-clause-tlb
+returns-clause-tlb c = ap (λ (s : Shown). s.tlb) c.count.ensures ∙ counted_empties c.args.self.now c.law_sound.ensures

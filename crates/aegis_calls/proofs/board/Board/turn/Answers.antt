@@ -5,6 +5,8 @@ use Rattle.board_model.proofs.Sound.{owed_most}
 use Rattle.board_model.proofs.Turning.{turned_runs, turned_world}
 use Rattle.world_model.specs.World.{World}
 use Rattle.board_model.proofs.Numbering.{turn_claims}
+use Rattle.board_model.specs.Shown.{Shown}
+use Rattle.aegis_calls.proofs.Emptying.{turn_leaves}
 use Rattle.aegis_calls.proofs.board.Board.turn.Goals as goal
 
 pub take_turn-requires-clause-room : goal.take_turn-requires-clause-room
@@ -23,3 +25,6 @@ pub returns-clause-numbers : goal.returns-clause-numbers
 returns-clause-numbers c =
     ap (λ (w : World). w.book.next_claim) (ap world_of c.take_turn.ensures.after ∙ turned_world c.args.self.now c.law_sound.ensures c.requires.whole)
     ∙ turn_claims (world_of c.args.self.now)
+
+pub returns-clause-tlb : goal.returns-clause-tlb
+returns-clause-tlb c = ap (λ (s : Shown). s.tlb) c.take_turn.ensures.after ∙ turn_leaves c.args.self.now

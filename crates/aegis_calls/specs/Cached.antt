@@ -1,0 +1,24 @@
+-- What the TLB is behind a call, and behind ticks in which nothing happens from outside.
+use Rattle.std.specs.Prelude.{◌≡◌, ◌<◌, ℕ, ◌+◌, Some, None}
+use Rattle.world_model.specs.Book.{running}
+use Rattle.world_model.specs.Event.{Schedule}
+use Rattle.board_model.specs.Refilling.{vpns_of}
+use Rattle.board_model.specs.Shown.{Shown}
+use Rattle.board_model.specs.Showing.{world_of}
+use Rattle.board_model.specs.Stretch.{IsQuiet, stretched}
+use Rattle.tlb_model.specs.Lookups.{first_missing}
+use Rattle.tlb_course.specs.Course.{cache_after_ticks, cache_called}
+
+-- once the runner's call is served, it is the model's
+abbrev pub IsCallCached : Shown → Shown → Type 0
+IsCallCached old new = (e : ℕ) → running old.slots.runner ≡ Some e → new.tlb ≡ cache_called (world_of old) e old.tlb
+
+-- in each of the next plain ticks, so many, every access of the step finds its row
+pub record FindRows (b : Shown) (e ticks : ℕ) : Type 0 where
+  pub each : (k : ℕ) → k < ticks → first_missing b.tlb.rows e (vpns_of (stretched b e k) e) ≡ None
+
+-- where nothing happens from outside in so many ticks between two boards, it is the model's
+abbrev pub AreCachedTicks : Shown → Shown → ℕ → Type 0
+AreCachedTicks before now ticks =
+    (schedule : Schedule) → IsQuiet schedule before.time (before.time + ticks)
+    → now.tlb ≡ cache_after_ticks schedule (world_of before) ticks before.tlb
