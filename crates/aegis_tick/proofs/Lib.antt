@@ -1,4 +1,5 @@
 pub mod Whole
+mod Cached
 mod Coming
 mod Happening
 mod Refusals

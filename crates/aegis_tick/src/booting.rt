@@ -6,6 +6,7 @@ ghost use Rattle.boot_image.specs.ImageValue.{guaranteed_mappings};
 ghost use Rattle.page_book.specs.Rows.{free_pages};
 ghost use Rattle.run_model.specs.Boot.{with_program, boot_world};
 ghost use Rattle.run_model.specs.Excess.{IsAccounted};
+ghost use Rattle.tlb_model.specs.Cache.{boot_cache};
 
 use aegis_calls::Board;
 use aegis_limits::{OutOfMemory, law_versions_are_within};
@@ -19,6 +20,7 @@ fn add_all(board: &mut Board, programs: &[Program<'_>])
     requires pages { sum_by guaranteed_mappings programs.now ≤ free_pages board.old.pages }
     ensures world { world_of board.new ≡ fold with_program (world_of board.old) programs.now }
     ensures whole { board.new.roster.spare ≡ 0 }
+    ensures tlb { board.new.tlb ≡ board.old.tlb }
     ensures numbers { board.new.claims.next ≡ board.old.claims.next }
     ensures pages { length board.new.frames ≡ length board.old.frames }
 {
@@ -33,6 +35,7 @@ pub fn boot(alloc: Global, image: &Image<'_>) -> Result<Board, OutOfMemory>
     ensures world { IfOk result (λ b. world_of b ≡ boot_world image.now) }
     ensures balance { IfOk result (λ b. IsAccounted (world_of b)) }
     ensures fresh { IfOk result IsFresh }
+    ensures tlb { IfOk result (λ b. b.tlb ≡ boot_cache) }
     ensures pages { IfOk result (λ b. length b.frames ≡ image.now.pages) }
 {
     law_accepted_is_within();

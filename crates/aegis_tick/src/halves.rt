@@ -2,6 +2,7 @@
 ghost use Rattle.std.specs.Prelude.{◌≡◌, ◌≤◌, ◌+◌, length, OnOk, OnErr};
 ghost use Rattle.board_model.specs.Showing.{world_of};
 ghost use Rattle.board_model.specs.Ticks.{IsSameTick, IsTicked, MayTick};
+ghost use Rattle.tlb_course.specs.Course.{cache_finished, cache_served};
 ghost use Rattle.aegis_tick.specs.Course.{HappenedInPart, occurrences, world_with};
 ghost use Rattle.aegis_tick.specs.Halves.{MayFinish, first_half, second_half};
 
@@ -19,6 +20,7 @@ pub fn begin_tick(board: &mut Board)
     requires may { MayTick board.old }
     requires room { TICK_ROWS ≤ board.old.ledger.spare }
     ensures world { world_of board.new ≡ first_half (world_of board.old) }
+    ensures tlb { board.new.tlb ≡ cache_served (world_of board.old) board.old.tlb }
     ensures may { MayFinish board.new }
     ensures same { IsSameTick board.old board.new }
     ensures room { board.old.ledger.spare + HALF_ROWS ≤ board.new.ledger.spare + TICK_ROWS }
@@ -32,6 +34,7 @@ pub fn finish_tick(board: &mut Board)
     requires may { MayFinish board.old }
     requires room { HALF_ROWS ≤ board.old.ledger.spare }
     ensures world { world_of board.new ≡ second_half (world_of board.old) }
+    ensures tlb { board.new.tlb ≡ cache_finished (world_of board.old) board.old.tlb }
     ensures ticked { IsTicked board.old board.new }
     ensures room { board.old.ledger.spare ≤ board.new.ledger.spare + HALF_ROWS }
 {
@@ -44,6 +47,7 @@ pub fn finish_tick(board: &mut Board)
 pub fn begin_with(board: &mut Board, events: &[Event]) -> Result<(), OutOfMemory>
     requires may { MayTick board.old }
     ensures world { OnOk result (world_of board.new ≡ first_half (world_with (occurrences events.now) (world_of board.old))) }
+    ensures tlb { OnOk result (board.new.tlb ≡ cache_served (world_with (occurrences events.now) (world_of board.old)) board.old.tlb) }
     ensures may { OnOk result (MayFinish board.new) }
     ensures same { OnOk result (IsSameTick board.old board.new) }
     ensures room { OnOk result (HALF_ROWS ≤ board.new.ledger.spare) }

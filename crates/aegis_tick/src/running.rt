@@ -13,6 +13,7 @@ ghost use Rattle.world_model.specs.Tick.{tick_step};
 ghost use Rattle.world_model.specs.World.{after};
 ghost use Rattle.run_model.specs.Excess.{IsAccounted};
 ghost use Rattle.run_model.specs.Run.{world_after_ticks, end_of_run};
+ghost use Rattle.tlb_course.specs.Course.{cache_after_ticks, cache_ticked};
 ghost use Rattle.aegis_tick.specs.Course.{HappenedInPart, IsCutOff, IsReady, IsSure, next_time_of, occurrences, world_with};
 
 use crate::halves::{begin_tick, finish_tick};
@@ -44,6 +45,7 @@ pub fn event(board: &mut Board, event: &Event)
     requires room { TICK_ROWS ≤ board.old.ledger.spare }
     requires may { MayHappen board.old }
     ensures world { world_of board.new ≡ after (world_of board.old) (happen event.now.what (world_of board.old)) }
+    ensures tlb { board.new.tlb ≡ board.old.tlb }
     ensures same { IsSameTick board.old board.new }
     ensures room { board.old.ledger.spare ≤ board.new.ledger.spare + TICK_ROWS }
 {
@@ -56,6 +58,7 @@ pub fn tick(board: &mut Board)
     requires may { MayTick board.old }
     requires room { TICK_ROWS ≤ board.old.ledger.spare }
     ensures world { world_of board.new ≡ tick_step (world_of board.old) }
+    ensures tlb { board.new.tlb ≡ cache_ticked (world_of board.old) board.old.tlb }
     ensures ticked { IsTicked board.old board.new }
     ensures room { board.old.ledger.spare ≤ board.new.ledger.spare + TICK_ROWS }
 {
@@ -113,6 +116,7 @@ fn take_due<'a>(events: &'a [Event], next: &mut usize, soon: &mut u32, time: u32
 fn happen_all(board: &mut Board, events: &[Event]) -> Result<(), OutOfMemory>
     requires { MayHappen board.old }
     ensures world { OnOk result (world_of board.new ≡ world_with (occurrences events.now) (world_of board.old)) }
+    ensures tlb { board.new.tlb ≡ board.old.tlb }
     ensures part { OnErr result (HappenedInPart (occurrences events.now) (world_of board.old) (world_of board.new)) }
     ensures same { IsSameTick board.old board.new }
     ensures sure { IsSure (length events.now) result board.old.ledger.spare board.new.ledger.spare }
@@ -128,6 +132,7 @@ fn happen_all(board: &mut Board, events: &[Event]) -> Result<(), OutOfMemory>
 pub(crate) fn happen_first(board: &mut Board, events: &[Event]) -> Result<(), OutOfMemory>
     requires may { MayTick board.old }
     ensures world { OnOk result (world_of board.new ≡ world_with (occurrences events.now) (world_of board.old)) }
+    ensures tlb { board.new.tlb ≡ board.old.tlb }
     ensures may { OnOk result (MayTick board.new) }
     ensures same { OnOk result (IsSameTick board.old board.new) }
     ensures room { OnOk result (TICK_ROWS ≤ board.new.ledger.spare) }
@@ -143,6 +148,7 @@ pub(crate) fn happen_first(board: &mut Board, events: &[Event]) -> Result<(), Ou
 fn tick_with(board: &mut Board, events: &[Event]) -> Result<(), OutOfMemory>
     requires may { MayTick board.old }
     ensures world { OnOk result (world_of board.new ≡ tick_step (world_with (occurrences events.now) (world_of board.old))) }
+    ensures tlb { OnOk result (board.new.tlb ≡ cache_ticked (world_with (occurrences events.now) (world_of board.old)) board.old.tlb) }
     ensures part { OnErr result (HappenedInPart (occurrences events.now) (world_of board.old) (world_of board.new)) }
     ensures ticked { OnOk result (IsTicked board.old board.new) }
     ensures sure { IsSure (length events.now + 1) result board.old.ledger.spare board.new.ledger.spare }
@@ -158,6 +164,7 @@ fn run_ticks(board: &mut Board, events: &[Event], ticks: u32) -> Result<(), OutO
     requires order { are_in_order 0 events.now ≡ true }
     requires limit { ticks ≤ most_ticks }
     ensures world { OnOk result (world_of board.new ≡ world_after_ticks (schedule_of events.now) (world_of board.old) ticks) }
+    ensures tlb { OnOk result (board.new.tlb ≡ cache_after_ticks (schedule_of events.now) (world_of board.old) ticks board.old.tlb) }
     ensures cut { OnErr result (IsCutOff (schedule_of events.now) (world_of board.old) ticks (world_of board.new)) }
     ensures balance { IsAccounted (world_of board.old) → IsAccounted (world_of board.new) }
     ensures sure { TICK_ROWS * (length events.now + ticks) ≤ board.old.ledger.spare → IsOk result }
@@ -199,6 +206,7 @@ pub fn run(board: &mut Board, events: &[Event], ticks: u32) -> Result<RunEnd, Ou
     requires order { are_in_order 0 events.now ≡ true }
     requires limit { ticks ≤ most_ticks }
     ensures world { OnOk result (world_of board.new ≡ world_after_ticks (schedule_of events.now) (world_of board.old) ticks) }
+    ensures tlb { OnOk result (board.new.tlb ≡ cache_after_ticks (schedule_of events.now) (world_of board.old) ticks board.old.tlb) }
     ensures end { IfOk result (λ end. end ≡ end_of_run (world_of board.new) ticks) }
     ensures cut { OnErr result (IsCutOff (schedule_of events.now) (world_of board.old) ticks (world_of board.new)) }
     ensures balance { IsAccounted (world_of board.old) → IsAccounted (world_of board.new) }

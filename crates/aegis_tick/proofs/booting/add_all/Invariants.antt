@@ -12,6 +12,7 @@ invariant-loop-program l = record {
   world : world_of l.board ≡ fold with_program (world_of l.fn.board) (take l.program-index l.programs);
   room : l.board.roster.spare + l.program-index ≡ length l.programs;
   free : free_pages l.fn.board.pages ≡ free_pages l.board.pages + sum_by guaranteed_mappings (take l.program-index l.programs);
+  tlb : l.board.tlb ≡ l.fn.board.tlb;
   numbers : l.board.claims.next ≡ l.fn.board.claims.next;
   pages : length l.board.frames ≡ length l.fn.board.frames;
 }

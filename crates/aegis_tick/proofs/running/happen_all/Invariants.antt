@@ -8,6 +8,7 @@ use Rattle.aegis_tick.proofs.running.happen_all.Given as goal
 abbrev pub invariant-loop-one : goal.invariant-loop-one
 invariant-loop-one l = record {
   world : world_of l.board ≡ world_with (occurrences (take l.one-index l.events)) (world_of l.fn.board);
+  tlb : l.board.tlb ≡ l.fn.board.tlb;
   time : l.board.time ≡ l.fn.board.time;
   whole : l.board.roster.spare ≡ l.fn.board.roster.spare;
   numbers : l.board.claims.next ≡ l.fn.board.claims.next;

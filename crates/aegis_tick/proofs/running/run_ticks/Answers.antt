@@ -7,11 +7,14 @@ use Rattle.world_model.specs.Book.{is_idle_book}
 use Rattle.world_model.specs.Event.{schedule_of}
 use Rattle.world_model.specs.Tick.{tick_step}
 use Rattle.world_model.specs.World.{World, run_phases}
-use Rattle.run_model.specs.Run.{next_phases, world_after_ticks}
+use Rattle.run_model.specs.Run.{next_phases, once_happened, world_after_ticks}
+use Rattle.board_model.specs.Stretch.{IsQuiet}
+use Rattle.tlb_course.specs.Course.{cache_after_ticks, cache_ticked}
 use Rattle.aegis_tick.specs.Course.{IsCutOff, next_time_of, occurrences, world_with}
 use Rattle.aegis_tick.proofs.Coming.{happens_next, next_coming, next_later, next_ordered, next_within, none_before, order_later}
 use Rattle.aegis_tick.proofs.Happening.{cut_accounted, cut_off, then_ticks}
 use Rattle.aegis_tick.proofs.Refusals.{on_err}
+use Rattle.aegis_tick.proofs.Cached.{cache_further, cache_goes_on, cache_stays}
 use Rattle.aegis_tick.proofs.Whole.{goes_on, run_further, stays}
 use Rattle.aegis_tick.proofs.running.run_ticks.Goals as goal
 
@@ -22,6 +25,16 @@ returns-then-idle-clause-world c =
     let idle = ap (λ (v : World). is_idle_book v.book) (sym c.loop-done.invariant.world) ∙ sym c.idle.ensures ∙ c.if-idle.true in
     let whole : c.loop-done.done + (c.args.ticks - c.loop-done.done) ≡ c.args.ticks = omega arith in
     c.loop-done.invariant.world ∙ sym (stays schedule w c.loop-done.done (c.args.ticks - c.loop-done.done) idle) ∙ ap (world_after_ticks schedule w) whole
+
+pub returns-then-idle-clause-tlb : goal.returns-then-idle-clause-tlb
+returns-then-idle-clause-tlb c =
+    let w = world_of c.args.board.now in
+    let schedule = schedule_of c.args.events.now in
+    let start = c.args.board.now.tlb in
+    let idle = ap (λ (v : World). is_idle_book v.book) (sym c.loop-done.invariant.world) ∙ sym c.idle.ensures ∙ c.if-idle.true in
+    let whole : c.loop-done.done + (c.args.ticks - c.loop-done.done) ≡ c.args.ticks = omega arith in
+    c.loop-done.invariant.tlb ∙ sym (cache_stays schedule w c.loop-done.done (c.args.ticks - c.loop-done.done) start idle)
+    ∙ ap (λ n. cache_after_ticks schedule w n start) whole
 
 -- a tick that is refused cuts the run off
 cut_here : (c : goal.After-from_residual) → IsCutOff (schedule_of c.args.events.now) (world_of c.args.board.now) c.args.ticks (world_of c.tick_with.new.board)
@@ -79,15 +92,27 @@ loop-done-preserved c =
     ∙ sym (then_ticks schedule v)
     ∙ ap (λ (u : World). run_phases u (next_phases schedule u)) now.world
     ∙ sym (goes_on schedule w t busy) in
+    let start = c.args.board.now.tlb in
+    let then = c.in_ok-tick_with.ensures.tlb
+    ∙ ap (λ (xs : List Occurrence). cache_ticked (world_with xs v) c.loop-done.board.tlb) (sym happens)
+    ∙ ap (λ (u : World). cache_ticked (once_happened schedule u) c.loop-done.board.tlb) now.world
+    ∙ ap (cache_ticked (once_happened schedule (world_after_ticks schedule w t))) now.tlb
+    ∙ sym (cache_goes_on schedule w t start busy) in
     let time = c.in_ok-tick_with.ensures.ticked.time ∙ ap (λ (m : ℕ). m + 1) now.time in
     let most = c.stretch-done.ensures.most in
     let limit = c.requires.limit in
     let later = next_later (t + 1) rest ordered (omega arith) in
     let numbers = c.in_ok-tick_with.ensures.ticked.numbers in
+    let quiet : IsQuiet schedule c.tick_with.new.board.time (c.tick_with.new.board.time + k) =
+    record { nothing = λ u from until. coming u (omega arith) ∙ none_before (t + 1) u rest ordered (omega arith) } in
     rw (c.take_due-now.ensures.next) (record {
-      world = c.stretch-done.ensures.world schedule (record { nothing = λ u from until. coming u (omega arith) ∙ none_before (t + 1) u rest ordered (omega arith) })
+      world = c.stretch-done.ensures.world schedule quiet
           ∙ ap (λ (u : World). world_after_ticks schedule u k) once
           ∙ run_further schedule w (t + 1) k;
+      tlb = c.stretch-done.ensures.tlb schedule quiet
+          ∙ ap (λ (u : World). cache_after_ticks schedule u k c.tick_with.new.board.tlb) once
+          ∙ ap (cache_after_ticks schedule (world_after_ticks schedule w (t + 1)) k) then
+          ∙ cache_further schedule w (t + 1) k start;
       within = omega arith;
       whole = c.stretch-done.ensures.whole ∙ c.in_ok-tick_with.ensures.ticked.whole;
       time = c.stretch-done.ensures.time ∙ ap (λ (m : ℕ). m + k) time;

@@ -4,6 +4,7 @@ use Rattle.external_event.specs.Order.{are_in_order}
 use Rattle.world_model.specs.Event.{schedule_of}
 use Rattle.board_model.specs.Showing.{world_of}
 use Rattle.run_model.specs.Run.{world_after_ticks}
+use Rattle.tlb_course.specs.Course.{cache_after_ticks}
 use Rattle.aegis_calls.specs.Rows.{tick_rows}
 use Rattle.aegis_tick.specs.Course.{next_time_of}
 use Rattle.aegis_tick.proofs.running.run_ticks.Given as goal
@@ -11,6 +12,7 @@ use Rattle.aegis_tick.proofs.running.run_ticks.Given as goal
 abbrev pub invariant-loop-done : goal.invariant-loop-done
 invariant-loop-done l = record {
   world : world_of l.board ≡ world_after_ticks (schedule_of l.events) (world_of l.fn.board) l.done;
+  tlb : l.board.tlb ≡ cache_after_ticks (schedule_of l.events) (world_of l.fn.board) l.done l.fn.board.tlb;
   within : l.done ≤ l.ticks;
   whole : l.board.roster.spare ≡ 0;
   time : l.board.time ≡ l.done;
