@@ -1,5 +1,5 @@
-//! The machines on a wire. A tick in which something may happen is made by its parts, in all machines; between them each
-//! runs on by itself, and is ahead of the others.
+//! The machines on a wire. Each makes a tick by its parts, and then runs on by itself, ahead of the others, until
+//! something may happen in it from outside.
 ghost use Rattle.std.specs.Prelude.{◌≡◌, ℕ, Vec, ◌≤◌, ◌<◌, ◌+◌, ◌++◌, ◌∷◌, [], IfOk, OnOk, OnErr, false, length, drop, get_or, true};
 ghost use Rattle.std.specs.Global.{Global};
 ghost use Rattle.aegis_limits.specs.Limits.{most_ticks};

@@ -1,4 +1,4 @@
--- For no tick it stays as it is, and so does an idle one; a stretch is silent.
+-- For no tick it stays as it is, and so does an idle one.
 use Rattle.std.proofs.Common.{sym, ◌∙◌}
 use Rattle.board_model.specs.Showing.{world_of}
 use Rattle.wire_net.proofs.Ahead.{idle_is_silent, none_are_silent}
