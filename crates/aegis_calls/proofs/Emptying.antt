@@ -4,7 +4,6 @@ use Rattle.std.specs.Prelude.{◌==◌, fold, map}
 use Rattle.mips_exec.specs.Cpu.{reg}
 use Rattle.mips_exec.specs.Step.{Step, Retired, Called, Trapped}
 use Rattle.mips_exec.specs.declared.exception.Exc.{Exc}
-use Rattle.external_event.specs.declared.event.Occurrence.{Occurrence}
 use Rattle.revocation_book.specs.declared.revocation.Taking.{Taking}
 use Rattle.slot_vector.specs.Slices.{excess_of, timer_by}
 use Rattle.world_model.specs.declared.call.Deed.{Deed}
@@ -23,7 +22,7 @@ use Rattle.world_model.specs.Step.{act_at_call, act_of, call_act, store_act, tra
 use Rattle.world_model.specs.Timer.{timer_of}
 use Rattle.world_model.specs.Tick.{handles_end}
 use Rattle.world_model.specs.Verdict.{verdict}
-use Rattle.board_model.specs.Doing.{after_count_down, after_deadlines, after_event, after_exit_or_call, after_forfeit, after_grant, after_runner_call, after_runner_step, after_start_if, after_taking, after_timer_by, after_timer_phase, after_trap, after_turn_phase, after_verdict, board_takings, has_end, with_one_asked}
+use Rattle.board_model.specs.Doing.{after_count_down, after_deadlines, after_exit_or_call, after_forfeit, after_grant, after_runner_call, after_runner_step, after_start_if, after_taking, after_timer_by, after_timer_phase, after_trap, after_turn_phase, after_verdict, board_takings, has_end, with_one_asked}
 use Rattle.board_model.specs.Shown.{Shown, handlers_in, handlers_of}
 use Rattle.board_model.specs.Showing.{book_of, solo_of, world_of}
 use Rattle.board_model.specs.Sound.{HasRunner, IsSoundBoard}
@@ -34,11 +33,7 @@ use Rattle.tlb_model.specs.Flushes.{flushed_all}
 use Rattle.tlb_course.specs.Course.{cache_acted, cache_called, cache_served, cache_timed}
 use Rattle.tlb_course.specs.Emptying.{count_flushes, deed_flushes, taking_flush, timer_flushes, verdict_flushes}
 
--- an event empties nothing
-pub event_leaves : (b : Shown) (what : Occurrence) → (after_event what b).tlb ≡ b.tlb
-event_leaves b what = search rules
-
--- nor does a turn
+-- a turn empties nothing
 forfeits_leave : (b : Shown) (pays : List Turn) → (fold after_forfeit b pays).tlb ≡ b.tlb
 forfeits_leave b [] = refl
 forfeits_leave b (t ∷ pays) = forfeits_leave (after_forfeit b t) pays
