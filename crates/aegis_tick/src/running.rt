@@ -134,7 +134,7 @@ pub(crate) fn happen_first(board: &mut Board, events: &[Event]) -> Result<(), Ou
     ensures world { OnOk result (world_of board.new ≡ world_with (occurrences events.now) (world_of board.old)) }
     ensures tlb { board.new.tlb ≡ board.old.tlb }
     ensures may { OnOk result (MayTick board.new) }
-    ensures same { OnOk result (IsSameTick board.old board.new) }
+    ensures same { IsSameTick board.old board.new }
     ensures room { OnOk result (TICK_ROWS ≤ board.new.ledger.spare) }
     ensures part { OnErr result (HappenedInPart (occurrences events.now) (world_of board.old) (world_of board.new)) }
     ensures sure { IsReady (length events.now) result board.old.ledger.spare board.new.ledger.spare }
@@ -151,6 +151,7 @@ fn tick_with(board: &mut Board, events: &[Event]) -> Result<(), OutOfMemory>
     ensures tlb { OnOk result (board.new.tlb ≡ cache_ticked (world_with (occurrences events.now) (world_of board.old)) board.old.tlb) }
     ensures part { OnErr result (HappenedInPart (occurrences events.now) (world_of board.old) (world_of board.new)) }
     ensures ticked { OnOk result (IsTicked board.old board.new) }
+    ensures early { OnErr result (IsSameTick board.old board.new × (board.new.tlb ≡ board.old.tlb)) }
     ensures sure { IsSure (length events.now + 1) result board.old.ledger.spare board.new.ledger.spare }
 {
     happen_first(board, events)?;
@@ -166,6 +167,7 @@ fn run_ticks(board: &mut Board, events: &[Event], ticks: u32) -> Result<(), OutO
     ensures world { OnOk result (world_of board.new ≡ world_after_ticks (schedule_of events.now) (world_of board.old) ticks) }
     ensures tlb { OnOk result (board.new.tlb ≡ cache_after_ticks (schedule_of events.now) (world_of board.old) ticks board.old.tlb) }
     ensures cut { OnErr result (IsCutOff (schedule_of events.now) (world_of board.old) ticks (world_of board.new)) }
+    ensures cut_tlb { OnErr result (board.new.tlb ≡ cache_after_ticks (schedule_of events.now) (world_of board.old) board.new.time board.old.tlb) }
     ensures balance { IsAccounted (world_of board.old) → IsAccounted (world_of board.new) }
     ensures sure { TICK_ROWS * (length events.now + ticks) ≤ board.old.ledger.spare → IsOk result }
 {
@@ -209,6 +211,7 @@ pub fn run(board: &mut Board, events: &[Event], ticks: u32) -> Result<RunEnd, Ou
     ensures tlb { OnOk result (board.new.tlb ≡ cache_after_ticks (schedule_of events.now) (world_of board.old) ticks board.old.tlb) }
     ensures end { IfOk result (λ end. end ≡ end_of_run (world_of board.new) ticks) }
     ensures cut { OnErr result (IsCutOff (schedule_of events.now) (world_of board.old) ticks (world_of board.new)) }
+    ensures cut_tlb { OnErr result (board.new.tlb ≡ cache_after_ticks (schedule_of events.now) (world_of board.old) board.new.time board.old.tlb) }
     ensures balance { IsAccounted (world_of board.old) → IsAccounted (world_of board.new) }
     ensures sure { TICK_ROWS * (length events.now + ticks) ≤ board.old.ledger.spare → IsOk result }
 {

@@ -51,6 +51,15 @@ cut_here c =
 pub returns-in_err-tick_with-clause-cut : goal.returns-in_err-tick_with-clause-cut
 returns-in_err-tick_with-clause-cut c = on_err c.from_residual.result (cut_here c)
 
+pub returns-in_err-tick_with-clause-cut_tlb : goal.returns-in_err-tick_with-clause-cut_tlb
+returns-in_err-tick_with-clause-cut_tlb c =
+    let w = world_of c.args.board.now in
+    let schedule = schedule_of c.args.events.now in
+    let now = c.loop-done.invariant in
+    let early = c.in_err-tick_with.ensures.early in
+    let time = early.0.time ∙ now.time in
+    on_err c.from_residual.result (early.1 ∙ now.tlb ∙ ap (λ (n : ℕ). cache_after_ticks schedule w n c.args.board.now.tlb) (sym time))
+
 pub returns-in_err-tick_with-clause-balance : goal.returns-in_err-tick_with-clause-balance
 returns-in_err-tick_with-clause-balance c =
     cut_accounted c.law_accounts.ensures (schedule_of c.args.events.now) (world_of c.args.board.now) c.args.ticks (world_of c.tick_with.new.board) (cut_here c)
