@@ -1,7 +1,6 @@
 //! What the layers above read of a board.
 ghost use Rattle.std.specs.Prelude.{◌≡◌, ◌<◌, ◌≤◌, Some, OnOk, OnErr, IsOk, length, slice_get};
 ghost use Rattle.std.specs.Option.{option_map};
-ghost use Rattle.aegis_limits.specs.Limits.{environment_numbers};
 ghost use Rattle.board_model.specs.Shown.{with_spare};
 ghost use Rattle.r3k_cp0.specs.Random.{first_random, random_end};
 ghost use Rattle.tlb_model.specs.Cache.{fills_of};
@@ -77,7 +76,7 @@ impl Board {
 
     /// How often the environment of this number was refilled, and how many of its misses were forwarded.
     pub fn fills(&self, env: u8) -> Fills
-        requires { env < environment_numbers }
+        requires { env < length self.now.roster.list }
         ensures { result ≡ fills_of self.now.tlb.fills env }
     {
         self.fills[env as usize]
