@@ -23,15 +23,15 @@ fill_lines fills count = for_each (λ e. fill_line e (fills_of fills e)) count
 unfoldable pub random_line : ℕ → List ℕ
 random_line random = line (codes "random" ∷ dec_text random ∷ [])
 
-unfoldable pub row_line : ℕ → Row → List ℕ
-row_line i row = line (codes "row" ∷ dec_text i ∷ hex_text 8 row.hi ∷ hex_text 8 row.lo ∷ [])
+unfoldable pub tlb_row_line : ℕ → Row → List ℕ
+tlb_row_line i row = line (codes "row" ∷ dec_text i ∷ hex_text 8 row.hi ∷ hex_text 8 row.lo ∷ [])
 
 -- the first rows, so many
-abbrev pub row_lines : List Row → ℕ → List ℕ
-row_lines rows count = for_each (λ i. row_line i (row_at rows i)) count
+abbrev pub tlb_row_lines : List Row → ℕ → List ℕ
+tlb_row_lines rows count = for_each (λ i. tlb_row_line i (row_at rows i)) count
 
 -- the TLB behind a run that left this world and ended in this way
 unfoldable pub tlb_text : World → Cache → RunEnd → List ℕ
 tlb_text w c how =
     line (codes "aegis" ∷ codes "tlb" ∷ []) ++ end_line w how ++ fill_lines c.fills w.count ++ random_line c.random
-    ++ row_lines c.rows row_count ++ line (codes "done" ∷ [])
+    ++ tlb_row_lines c.rows row_count ++ line (codes "done" ∷ [])

@@ -2,7 +2,7 @@
 ghost use Rattle.std.specs.Prelude.{◌≡◌, ◌++◌, length, OnOk, IfOk};
 ghost use Rattle.board_model.specs.Showing.{world_of};
 ghost use Rattle.r3k_tlb.specs.Rows.{row_count};
-ghost use Rattle.tlb_report.specs.Text.{fill_line, fill_lines, random_line, row_line, row_lines, tlb_text};
+ghost use Rattle.tlb_report.specs.Text.{fill_line, fill_lines, random_line, tlb_row_line, tlb_row_lines, tlb_text};
 
 use aegis_calls::Board;
 use aegis_limits::OutOfMemory;
@@ -48,9 +48,9 @@ fn push_random_line(out: &mut Vec<u8>, random: u8) -> Result<(), OutOfMemory>
 }
 
 /// Appends the line of a row.
-#[tactic(auto, unfolding(crate::specs::Text::row_line, line_text::specs::WrittenLine::line_of))]
+#[tactic(auto, unfolding(crate::specs::Text::tlb_row_line, line_text::specs::WrittenLine::line_of))]
 fn push_row_line(out: &mut Vec<u8>, i: u8, row: Row) -> Result<(), OutOfMemory>
-    ensures { OnOk result (out.new.items ≡ out.old.items ++ row_line i row) }
+    ensures { OnOk result (out.new.items ≡ out.old.items ++ tlb_row_line i row) }
 {
     let words = [
         Word::Number(u64::from(i)),
@@ -63,7 +63,7 @@ fn push_row_line(out: &mut Vec<u8>, i: u8, row: Row) -> Result<(), OutOfMemory>
 /// Appends the lines of all rows.
 #[tactic(auto, using(std::proofs::lemmas::Grind::common_steps, crate::proofs::Lines::for_each_more))]
 fn push_row_lines(out: &mut Vec<u8>, tlb: &Tlb) -> Result<(), OutOfMemory>
-    ensures { OnOk result (out.new.items ≡ out.old.items ++ row_lines tlb.now row_count) }
+    ensures { OnOk result (out.new.items ≡ out.old.items ++ tlb_row_lines tlb.now row_count) }
 {
     for i in 0..ROW_COUNT as u8 {
         push_row_line(out, i, tlb.read(i))?;
