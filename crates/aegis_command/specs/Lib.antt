@@ -2,6 +2,7 @@ pub mod RunImage
 pub mod SystemFiles
 pub mod LoadSeed
 pub mod AuditLedger
+pub mod TlbImage
 pub mod TraceEnv
 pub mod RunBare
 pub mod WireMachines

@@ -12,6 +12,7 @@ mod run_bare;
 mod run_image;
 mod system_files;
 mod ticks;
+mod tlb_image;
 mod top;
 mod trace_env;
 mod traced_ticks;

@@ -11,6 +11,7 @@ use crate::audit_ledger::AuditLedger;
 use crate::load_seed::LoadSeed;
 use crate::run_bare::RunBare;
 use crate::run_image::RunImage;
+use crate::tlb_image::TlbImage;
 use crate::trace_env::TraceEnv;
 use crate::wire_machines::WireMachines;
 use commands::{Answer, Asm, ListElf, MakeImage, Stop, perform};
@@ -38,6 +39,8 @@ pub enum Words<'a> {
     RunBare(RunBare<'a>),
     /// `wire DELAY TICKS (IMAGE SCHEDULE)..`.
     WireMachines(WireMachines<'a>),
+    /// `tlb IMAGE SCHEDULE TICKS`.
+    TlbImage(TlbImage<'a>),
 }
 
 /// The one word that there is.
@@ -88,6 +91,9 @@ pub fn parse(words: &[String]) -> Option<Words<'_>>
     if word == "wire" {
         return Some(Words::WireMachines(WireMachines::parse(rest)?));
     }
+    if word == "tlb" {
+        return Some(Words::TlbImage(TlbImage::parse(rest)?));
+    }
     None
 }
 
@@ -112,5 +118,6 @@ pub fn perform_words<S: Shelf>(
         Words::TraceEnv(command) => perform(alloc, &command, shelf),
         Words::RunBare(command) => perform(alloc, &command, shelf),
         Words::WireMachines(command) => perform(alloc, &command, shelf),
+        Words::TlbImage(command) => perform(alloc, &command, shelf),
     }
 }
