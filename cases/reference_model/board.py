@@ -9,6 +9,7 @@ import struct
 from collections import Counter
 from typing import List, Optional, Tuple, Union
 
+from cache import FORWARDED, GUARANTEED, STRIPE, Cache, Refill, hi_word, lo_word
 from files import PAGE, VERSIONS, Image, Program
 from filters import Filter
 from handlers import FAULT, Run
@@ -76,7 +77,7 @@ class Env:
 
 
 class Memory:
-    """Memory as an environment sees it."""
+    """Memory as an environment sees it, through the TLB."""
 
     def __init__(self, board: Board, env: Env):
         self.board, self.env = board, env
@@ -84,12 +85,21 @@ class Memory:
     def reach(self, va: int, is_store: bool) -> int:
         if va >> 31:
             raise Trap(ADES if is_store else ADEL, va)
-        seen = self.env.sees(va // PAGE)
+        seen = self.board.cache.find(va // PAGE, self.env.number)
         if seen is None:
-            raise Trap(TLBS if is_store else TLBL, va)
+            raise self.missed(va, is_store)
         if is_store and not seen[1]:
             raise Trap(MOD, va)
         return seen[0]
+
+    def missed(self, va: int, is_store: bool) -> Exception:
+        """What an access is that finds no row: a refill where there is a mapping, and else the environment's exception."""
+        vpn, pid = va // PAGE, self.env.number
+        mapping = self.env.sees(vpn)
+        if mapping is None:
+            self.board.cache.fills[pid][FORWARDED] += 1
+            return Trap(TLBS if is_store else TLBL, va)
+        return Refill(GUARANTEED if vpn in self.env.guaranteed else STRIPE, pid, hi_word(vpn, pid), lo_word(*mapping))
 
     def fetch(self, va: int) -> int:
         return word_of(self.board.pages[self.reach(va, False)].data, va % PAGE & ~3)
@@ -118,7 +128,7 @@ class Board:
         self.slot, self.runner, self.left, self.in_grace = len(self.slots) - 1, None, 0, False
         self.lines, self.claims, self.next_claim = [None] * LINES, {}, 0
         self.taken = {}  # by page that was taken in this tick, from whom
-        self.envs = []
+        self.envs, self.cache = [], Cache(len(image.programs))
         for program in image.programs:
             self.add(program)
         for slot, hold in enumerate(self.slots):
@@ -225,6 +235,7 @@ class Board:
             if page.owner is env:
                 self.free(number, "a death")
         env.bindings.clear()
+        self.count_emptied("a death", self.cache.drop_pid(env.number))
         self.seen["revocations that end with a death"] += env.outstanding > 0
         env.outstanding = 0
         self.seen["lines that end with a death"] += self.lines.count(env)
@@ -263,6 +274,7 @@ class Board:
             owner.backups.remove(number)
             self.seen[f"backups that end with {cause}"] += 1
         self.pages[number].release()
+        self.empty_page(number, owner, cause)
         self.break_bindings(number)
         for claim in self.claims_on(number):
             self.withdraw(claim, cause)
@@ -271,8 +283,30 @@ class Board:
         """A page has other words: the bindings of all but its owner go, and no claim does."""
         page = self.pages[number]
         page.read, page.write = read, write
+        self.empty_page(number, page.owner, "a recap")
         self.break_bindings(number, but=page.owner)
         self.seen["rings that have other words"] += bool(self.claims_on(number))
+
+    def bind(self, env: Env, vpn: int, page: int, is_writable: bool) -> None:
+        """A binding stands in its row, in place of another if one is there."""
+        replaced = env.bindings.get(env.row_of(vpn))
+        self.count_emptied("a bind", self.cache.drop_pair(vpn, env.number))
+        if replaced:
+            self.count_emptied("a bind in its row", self.cache.drop_pair(replaced[0], env.number))
+        env.bindings[env.row_of(vpn)] = vpn, page, is_writable
+
+    def unbind(self, env: Env, vpn: int) -> None:
+        self.count_emptied("an unbind", self.cache.drop_pair(vpn, env.number))
+        del env.bindings[env.row_of(vpn)]
+
+    def empty_page(self, number: int, owner: Env, cause: str) -> None:
+        """The rows of a page are emptied, whosesoever they are."""
+        others = sum(pid != owner.number for pid in self.cache.pids_of(number))
+        self.count_emptied(cause, self.cache.drop_page(number))
+        self.seen[f"rows of others emptied by {cause}"] += others
+
+    def count_emptied(self, cause: str, count: int) -> None:
+        self.seen[f"rows emptied by {cause}"] += count
 
     def claims_on(self, number: int) -> List[Claim]:
         """The claims whose ring a page is."""

@@ -121,7 +121,7 @@ def bind(board: Board, env: Env, vpn: int, number: int, is_writable: int, *words
     if page.owner is not env:
         gives_right = word and (word == page.write or word == page.read and not is_writable)
         refuse_if(page.owner is None or page.is_guaranteed or not gives_right, NO_RIGHT)
-    env.bindings[env.row_of(vpn)] = vpn, number, bool(is_writable)
+    board.bind(env, vpn, number, bool(is_writable))
     return 0
 
 
@@ -129,7 +129,7 @@ def unbind(board: Board, env: Env, vpn: int, *_: int) -> int:
     check_bindable(env, vpn)
     is_bound = env.sees(vpn) is not None
     if is_bound:
-        del env.bindings[env.row_of(vpn)]
+        board.unbind(env, vpn)
     return int(is_bound)
 
 

@@ -5,9 +5,10 @@ from collections import deque
 from typing import Callable, Deque, List, Optional
 
 from board import ENDS, Board, Env, Memory
+from cache import EMPTIED, Refill
 from calls import make_call
 from files import Event, Image
-from machine import KernelCall, Trap, step
+from machine import MOD, KernelCall, Trap, step
 
 MOST_EXCESS = 8
 
@@ -75,12 +76,41 @@ def take_turn(board: Board) -> None:
 
 
 def make_step(board: Board, env: Env) -> None:
+    """The step is attempted from its fetch on until it misses no row of a mapping."""
+    pc, in_slot, refills = env.cpu.pc, env.cpu.slot, []
+    while True:
+        end = attempt(board, env)
+        if not isinstance(end, Refill):
+            break
+        refills.append(end)
+    count_refills(board, pc, in_slot, refills, end)
+
+
+def attempt(board: Board, env: Env) -> Optional[Exception]:
+    """An attempt of a step, behind which Random falls, and what it leads to. Answers how it ended, if it didn't retire."""
+    end = None
     try:
         step(env.cpu, Memory(board, env))
-    except KernelCall:
+    except (Refill, KernelCall, Trap) as it:
+        end = it
+    if isinstance(end, Refill):
+        board.seen["rows pushed out"] += board.cache.fill(end) != EMPTIED
+    board.cache.fall()
+    if isinstance(end, KernelCall):
         make_call(board, env)
-    except Trap as trap:
-        board.raise_exception(env, trap)
+    elif isinstance(end, Trap):
+        board.raise_exception(env, end)
+    return end
+
+
+def count_refills(board: Board, pc: int, in_slot: bool, refills: List[Refill], end: Optional[Exception]) -> None:
+    """Counts what kind of a step was refilled, whose address and place are these."""
+    of_fetch = [refill.row[0] >> 12 == pc >> 12 for refill in refills]
+    board.seen["steps with two refills"] += len(refills) == 2
+    board.seen["fetches pushed out by their own load or store"] += of_fetch == [False, True]
+    board.seen["refills in a delay slot"] += bool(refills) and in_slot
+    board.seen["refills of a call's fetch"] += bool(refills) and isinstance(end, KernelCall)
+    board.seen["refills of a store that is Mod"] += bool(refills) and isinstance(end, Trap) and end.code == MOD
 
 
 def count(board: Board) -> None:

@@ -1,9 +1,9 @@
 """What a trace writes: docs/REPORT.md, "The trace". `python3 trace.py IMAGE SCHEDULE TICKS ENV` writes it."""
 import sys
 
-from board import Memory
+from board import word_of
+from files import PAGE
 from listing import text_of_word
-from machine import Trap
 from report import answer, end_line
 from ticks import finish_tick
 
@@ -18,12 +18,10 @@ def values(env):
 def instruction(board, env):
     """The word at which an environment stands, and its text; or that the fetch is refused."""
     pc = env.cpu.pc
-    try:
-        if pc % 4:
-            raise Trap(0)
-        word = Memory(board, env).fetch(pc)
-    except Trap:
+    seen = None if pc % 4 or pc >> 31 else env.sees(pc // PAGE)
+    if seen is None:
         return "-------- fetch"
+    word = word_of(board.pages[seen[0]].data, pc % PAGE)
     return f"{word:08x} {text_of_word(word, pc)}"
 
 
