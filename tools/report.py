@@ -79,7 +79,9 @@ ROWS = {
 DASHED = {"own", "take"}  # rows that may have dashes
 PLAIN = form(r"(run N N N\nstop N \3 \4)\n|((?:give|async|sync) N N N N)\n")  # a slice that nothing disturbs; a gift
 TAIL = {"sum": form("sum N N N N"), "done": form("done")}
-WORDS = {*HEAD, *ROWS, *TAIL}
+TLB = {"aegis": form("aegis tlb"), "fill": form("fill N N N N"), "random": form("random N"), "row": form(f"row N ({HEX8}) ({HEX8})")}
+WORDS = {*HEAD, *ROWS, *TAIL, *TLB}
+TLB_ROWS = 64
 
 
 class Lines:
@@ -152,9 +154,15 @@ class Lines:
             return Refused(self.number, f"no row of a report: {ascii(shown)}")
         return Refused(self.number, f"another row is due here, or this one has another form: {ascii(shown)}")
 
+    def goes_on(self) -> bool:
+        """Whether anything stands behind this line."""
+        if self.next == len(self.block):
+            self.block, self.start, self.next = self.block[self.start:] + self.source.read(self.BLOCK), 0, self.next - self.start
+        return self.next < len(self.block)
+
     def finish(self) -> None:
         """Nothing stands behind the last line."""
-        if self.next < len(self.block) or self.source.read(1):
+        if self.goes_on():
             raise Refused(self.number + 1, "a line behind `done`")
 
 
@@ -325,6 +333,7 @@ class Ledger:
         self.ticks = [0] * count
         self.died: Dict[int, int] = {}
         self.runs, self.pays, self.overs = [0] * count, [0] * count, [0] * count
+        self.fills: List[List[int]] = []  # of each environment, refills from both sources and misses, where `aegis tlb` tells them
         self.text = ""  # the row that is followed
 
     def follow(self, lines: Lines) -> None:
@@ -413,7 +422,29 @@ class Ledger:
                                             f"and environment {env} is due here")
             lines.advance()
         lines.fields(TAIL["done"])
+        if lines.goes_on():
+            lines.advance()
+            self.read_fills(lines)
         lines.finish()
+
+    def read_fills(self, lines: Lines) -> None:
+        """Reads what `aegis tlb` writes behind a report, of which the fills are kept."""
+        if not TLB["aegis"].fullmatch(lines.text):
+            raise Refused(lines.number, "a line behind `done`")
+        lines.advance()
+        if lines.fields(HEAD["end"]) != (self.head.ending, str(self.head.time)):
+            raise lines.misplaced()
+        lines.advance()
+        for env in range(self.count):
+            number, *counts = map(int, lines.take(TLB["fill"]))
+            if number != env:
+                raise Refused(lines.number - 1, f"environment {env} is due here")
+            self.fills.append(counts)
+        lines.take(TLB["random"])
+        for row in range(TLB_ROWS):
+            if int(lines.take(TLB["row"])[0]) != row:
+                raise Refused(lines.number - 1, f"row {row} is due here")
+        lines.fields(TAIL["done"])
 
     def finish(self) -> None:
         """A slice still runs at the end of a run that reached its limit; else the next turn's time is the end."""
