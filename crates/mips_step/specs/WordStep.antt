@@ -1,8 +1,9 @@
 -- The step of a word that was fetched: the answer to its load or store, its write, and whether it retires.
-use Rattle.std.specs.Prelude.{◌≡◌, ℕ, ◌==◌, ◌||◌, Bool, true, false, Option, Some, None, Result, Ok, Err}
+use Rattle.std.specs.Prelude.{◌≡◌, ℕ, ◌^◌, ◌==◌, ◌&&◌, ◌||◌, nat_lt, if◌then◌else◌, Bool, true, false, Option, Some, None, Result, Ok, Err}
 use Rattle.mips_isa.specs.Encoding.{insn_of}
-use Rattle.mips_isa.specs.Fields.{opcode_of}
+use Rattle.mips_isa.specs.Fields.{function_of, imm_of, opcode_of, rs_of}
 use Rattle.mips_exec.specs.declared.registers.Cpu.{Cpu}
+use Rattle.mips_exec.specs.Cpu.{address_of}
 use Rattle.mips_exec.specs.declared.reach.Access.{Access}
 use Rattle.mips_exec.specs.declared.exception.Exc.{Exc}
 use Rattle.mips_exec.specs.declared.exception.Outcome.{Outcome}
@@ -63,6 +64,21 @@ PlainWordsAreSteps =
 -- LW or SW
 abbrev pub moves_word : ℕ → Bool
 moves_word word = opcode_of word == 35 || opcode_of word == 43
+
+-- the address that a load or store names, all of which are words from 2^31 on
+abbrev pub named_address : Cpu → ℕ → Option ℕ
+named_address cpu word =
+    if nat_lt word (2 ^ 31) then None else Some (address_of cpu (rs_of word) (imm_of word))
+
+-- SYSCALL, with any code
+abbrev pub is_syscall : ℕ → Bool
+is_syscall word = opcode_of word == 0 && function_of word == 12
+
+-- Outside a delay slot it is a call of the kernel.
+abbrev pub SyscallsCall : Type 0
+SyscallsCall =
+    (answers : Answers) (cpu : Cpu) (word : ℕ) → is_syscall word ≡ true → cpu.slot ≡ false
+    → fetched_step answers cpu word ≡ Called
 
 -- The instruction table has no word of coprocessor 0's opcode that retires.
 abbrev pub SystemWordsTrap : Type 0

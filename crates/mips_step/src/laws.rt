@@ -1,6 +1,6 @@
 //! The laws of steps.
 ghost use Rattle.mips_exec.specs.Kept.{StepsAreSound};
-ghost use Rattle.mips_step.specs.WordStep.{PlainWordsAreSteps, SystemWordsTrap};
+ghost use Rattle.mips_step.specs.WordStep.{PlainWordsAreSteps, SyscallsCall, SystemWordsTrap};
 
 /// In each step words stay words, and what is written is 1 to 4 bytes of one aligned word, where memory
 /// takes them (`docs/MACHINE.md`, "Effect").
@@ -12,6 +12,11 @@ pub fn steps_are_sound()
 /// (`docs/MACHINE.md`, "Effect").
 pub fn law_system_words_trap()
     ensures { SystemWordsTrap }
+{}
+
+/// SYSCALL outside a delay slot is a call of the kernel, whatever its code and whatever memory answers.
+pub fn law_syscalls_call()
+    ensures { SyscallsCall }
 {}
 
 /// The step of a word that neither loads nor stores asks no memory.

@@ -11,8 +11,11 @@ mod memory_table;
 mod step;
 mod table;
 
-pub use laws::{law_plain_words, law_system_words_trap, steps_are_sound};
+pub use laws::{law_plain_words, law_syscalls_call, law_system_words_trap, steps_are_sound};
 pub use live::Live;
 pub use memory::Bus;
 pub use memory_table::moves_word;
-pub use step::{retire_access, retire_plain, retire_word_access, step_fetched, step_user};
+pub use step::{
+    is_syscall, named_address, retire_access, retire_plain, retire_word_access, step_fetched,
+    step_user,
+};

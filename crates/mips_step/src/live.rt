@@ -61,6 +61,7 @@ impl<'a> Live<'a> {
     pub fn settle(&mut self)
         ensures same { IsSameLive self.old self.new }
         ensures cpu { self.new.cpu.now ≡ joined self.old }
+        ensures kept { joined self.new ≡ joined self.old }
     {
         self.cpu.regs[0] = self.zeroth;
         self.cpu.pc = self.pc;

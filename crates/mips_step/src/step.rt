@@ -4,17 +4,21 @@ ghost use Rattle.mips_isa.specs.Encoding.{insn_of};
 ghost use Rattle.mips_exec.specs.Access.{access};
 ghost use Rattle.mips_exec.specs.Step.{cpu_after, outcome_of, step_of, view_of, write_after, Wrote};
 ghost use Rattle.mips_step.specs.Live.{HasZero, IsSameLive, joined};
-ghost use Rattle.mips_step.specs.WordStep.{fetched_step, has_retired, moves_word, plain_step, step_of_change};
+ghost use Rattle.mips_step.specs.WordStep.{fetched_step, has_retired, is_syscall, moves_word, named_address, plain_step, step_of_change};
 
 use crate::change::{apply, retire};
 use crate::live::Live;
 use crate::memory::Bus;
 use crate::memory_table::{change_after_access, change_after_word};
-use crate::table::change_without_access;
+use crate::table::{change_without_access, rs_value, signed_imm};
+use mips_codec::{SPECIAL, function, opcode};
 use mips_exec::{Change, Cpu, Exc, ExcCode, Outcome};
 
 /// Words from this one on are loads, stores and coprocessors.
 const ACCESSES: u32 = 0x8000_0000;
+
+/// The function of SYSCALL.
+const SYSCALL: u8 = 12;
 
 /// The change of a word, once memory has answered its load or store, or what the access raises.
 #[inline(always)]
@@ -97,6 +101,26 @@ pub fn retire_access<B: Bus>(live: &mut Live<'_>, bus: &mut B, word: u32) -> boo
         Ok(change) => retire(live, change),
         Err(_) => false,
     }
+}
+
+/// The address that the word names if it loads or stores; a word below 2^31 does neither.
+#[inline(always)]
+pub fn named_address(live: &Live<'_>, word: u32) -> Option<u32>
+    requires { HasZero live.now }
+    ensures { result ≡ named_address (joined live.now) word }
+{
+    if word < ACCESSES {
+        return None;
+    }
+    Some(rs_value(live, word).wrapping_add(signed_imm(word)))
+}
+
+/// Whether the word is SYSCALL, with any code.
+#[inline(always)]
+pub fn is_syscall(word: u32) -> bool
+    ensures { result ≡ is_syscall word }
+{
+    opcode(word) == SPECIAL && function(word) == SYSCALL
 }
 
 /// The step of a word that was fetched (`docs/MACHINE.md`, "Effect"). A call of the kernel and an exception leave the
