@@ -150,7 +150,7 @@ impl Board {
     {
         law_retired_steps();
         let calm = self.calm_ticks(period, t, most);
-        self.machine.run(&mut self.frames, calm)
+        self.machine.run(&mut self.frames, calm).made
     }
 
     /// Runs for at most so many ticks, with interrupts by this period; the ticks done before it halted, if it did. A

@@ -13,6 +13,7 @@ use Rattle.r3k_machine.specs.declared.bus.RowBus.{RowBus}
 use Rattle.r3k_machine.specs.Lent.{IsKept, IsStored}
 use Rattle.r3k_machine.specs.Machine.{after_attempts}
 use Rattle.r3k_machine.specs.Memory.{frames_written, row_answers, row_step}
+use Rattle.r3k_machine.specs.Steps.{Running, wanted_behind}
 
 -- there are as many pages after a write
 pub length_written : (cp0 : Cp0) (rows : List Row) (frames : List (List ℕ)) (w : Option Write)
@@ -63,3 +64,8 @@ pub random_is_unasked : (times : ℕ) (cp0 : Cp0) (rows : List Row) (frames : Li
     → row_step (after_attempts times cp0) rows frames cpu ≡ row_step cp0 rows frames cpu
 unfolding row_answers
 random_is_unasked times cp0 rows frames cpu = refl
+
+pub wanted_without_random : (random made most : ℕ) (cp0 : Cp0) (rows : List Row) (s : Running)
+    → wanted_behind made most (record cp0 { random = random }) rows s ≡ wanted_behind made most cp0 rows s
+unfolding row_answers
+wanted_without_random random made most cp0 rows s = refl

@@ -11,4 +11,5 @@ mod translation;
 
 pub use laws::law_retired_steps;
 pub use machine::{Machine, MachineEnd};
+pub use run::Steps;
 pub use translation::AccessKind;

@@ -8,17 +8,18 @@ ghost use Rattle.r3k_tlb.specs.Rows.{first_fitting};
 ghost use Rattle.r3k_cp0.specs.Random.{first_random, random_end};
 ghost use Rattle.r3k_cp0.specs.Registers.{cp0_reg, current_pid, is_user, with_cp0_reg};
 ghost use Rattle.r3k_machine.specs.Exceptions.{as_user, in_exception, interrupted, out_of_exception};
-ghost use Rattle.r3k_machine.specs.Machine.{after_attempts, blank_machine, end_of, end_of_trap, user_step};
+ghost use Rattle.r3k_machine.specs.Machine.{after_attempts, blank_machine, end_of, end_of_trap, stands_at_call, user_step};
 ghost use Rattle.r3k_machine.specs.Memory.{frames_written};
 ghost use Rattle.r3k_machine.specs.System.{machine_step, with_random_fallen};
-ghost use Rattle.r3k_machine.specs.Steps.{RowStepsRetire, after_row_steps};
+ghost use Rattle.r3k_machine.specs.Steps.{RowStepsRetire, after_row_steps, wanted_behind};
 
 use crate::bus::RowBus;
-use crate::run::run_rows;
+use crate::code::CodePage;
+use crate::run::{Steps, run_rows};
 use crate::translation::{PAGE_BYTES, USER_END};
 use frame_store::Frames;
 use mips_exec::{Cpu, Exc, ExcCode, Outcome};
-use mips_step::step_user;
+use mips_step::{is_syscall, law_syscalls_call, step_user};
 use r3k_cp0::{Cp0, exception_vector};
 use r3k_tlb::Tlb;
 
@@ -108,6 +109,19 @@ impl Machine {
         step_user(&mut self.cpu, &mut bus)
     }
 
+    /// Whether the next step in user mode is a call of the kernel: a SYSCALL outside a delay slot.
+    #[inline(always)]
+    fn stands_at_call(&self, frames: &Frames) -> bool
+        ensures { result ≡ stands_at_call self.now frames.now }
+    {
+        match CodePage::of(frames, &self.tlb, &self.cp0, self.cpu.pc) {
+            Some(code) if !self.cpu.slot => {
+                is_syscall(code.word(frames, &self.tlb, &self.cp0, self.cpu.pc))
+            }
+            _ => false,
+        }
+    }
+
     /// One step in user mode, over physical memory. It lowers Random by one, however it ends.
     pub fn user_step(&mut self, frames: &mut Frames) -> MachineEnd
         requires user { is_user self.old.cp0 ≡ true }
@@ -118,6 +132,10 @@ impl Machine {
         ensures rows { self.new.tlb ≡ self.old.tlb }
         ensures cp0 { self.new.cp0 ≡ after_attempts 1 self.old.cp0 }
     {
+        law_syscalls_call();
+        if self.stands_at_call(frames) {
+            return self.end_step(Outcome::Call);
+        }
         let outcome = self.table_step(frames);
         self.end_step(outcome)
     }
@@ -138,20 +156,21 @@ impl Machine {
         self.end_step(outcome)
     }
 
-    /// Steps of the instruction table, one after another, at most so many, and as long as they retire; the result is how
-    /// many. It ends before that number only where the next step of the table wouldn't retire, which isn't made: so it
-    /// ends before an instruction of coprocessor 0. Random is lowered by the result.
-    pub fn run(&mut self, frames: &mut Frames, most: u32) -> u32
-        ensures machine { record { cpu = self.new.cpu; frames = frames.new } ≡ after_row_steps self.old.cp0 self.old.tlb (record { cpu = self.old.cpu; frames = frames.old }) result }
-        ensures retire { RowStepsRetire self.old.cp0 self.old.tlb (record { cpu = self.old.cpu; frames = frames.old }) result }
-        ensures most { result ≤ most }
-        ensures stop { result < most → has_retired (user_step self.new frames.new) ≡ false }
+    /// Steps of the instruction table, one after another, at most so many, and as long as they retire. It ends before that
+    /// number only where the next step of the table wouldn't retire, which isn't made: so it
+    /// ends before an instruction of coprocessor 0. Random is lowered once for each.
+    pub fn run(&mut self, frames: &mut Frames, most: u32) -> Steps
+        ensures machine { record { cpu = self.new.cpu; frames = frames.new } ≡ after_row_steps self.old.cp0 self.old.tlb (record { cpu = self.old.cpu; frames = frames.old }) result.made }
+        ensures retire { RowStepsRetire self.old.cp0 self.old.tlb (record { cpu = self.old.cpu; frames = frames.old }) result.made }
+        ensures most { result.made ≤ most }
+        ensures stop { result.made < most → has_retired (user_step self.new frames.new) ≡ false }
+        ensures wanted { result.wanted ≡ wanted_behind result.made most self.new.cp0 self.new.tlb (record { cpu = self.new.cpu; frames = frames.new }) }
         ensures size { length frames.new ≡ length frames.old }
         ensures rows { self.new.tlb ≡ self.old.tlb }
-        ensures cp0 { self.new.cp0 ≡ after_attempts result self.old.cp0 }
+        ensures cp0 { self.new.cp0 ≡ after_attempts result.made self.old.cp0 }
     {
         let steps = run_rows(&mut self.cpu, frames, &self.tlb, &self.cp0, most);
-        self.cp0.random.fall_times(steps);
+        self.cp0.random.fall_times(steps.made);
         steps
     }
 

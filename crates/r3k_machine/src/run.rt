@@ -5,14 +5,15 @@ ghost use Rattle.mips_step.specs.Live.{HasZero, IsSameLive, joined};
 ghost use Rattle.mips_step.specs.WordStep.{has_retired};
 ghost use Rattle.r3k_machine.specs.Code.{IsCode, has};
 ghost use Rattle.r3k_machine.specs.Memory.{frames_written, row_answers, row_step};
-ghost use Rattle.r3k_machine.specs.Steps.{RowStepsRetire, after_row_steps};
+ghost use Rattle.r3k_machine.specs.Steps.{RowStepsRetire, after_row_steps, wanted_behind};
 
 use crate::bus::RowBus;
 use crate::code::CodePage;
 use frame_store::Frames;
 use mips_exec::Cpu;
 use mips_step::{
-    Live, law_plain_words, moves_word, retire_access, retire_plain, retire_word_access,
+    Live, law_plain_words, moves_word, named_address, retire_access, retire_plain,
+    retire_word_access,
 };
 use r3k_cp0::Cp0;
 use r3k_tlb::Tlb;
@@ -80,26 +81,41 @@ fn run_page(
     most
 }
 
-/// Steps of the instruction table, one after another, at most so many, and as long as they retire; the result is how many.
+/// Steps that were made one after another.
+#[derive(Clone, Copy)]
+pub struct Steps {
+    /// How many retired.
+    pub made: u32,
+    /// What the next asks of memory, where more might have been made: the address that isn't fetched from, or else that of
+    /// the word's load or store; None if the word has none.
+    pub wanted: Option<u32>,
+}
+
+/// Steps of the instruction table, one after another, at most so many, and as long as they retire.
 /// The first that would do anything else isn't made.
-pub(crate) fn run_rows(cpu: &mut Cpu, frames: &mut Frames, tlb: &Tlb, cp0: &Cp0, most: u32) -> u32
-    ensures machine { record { cpu = cpu.new; frames = frames.new } ≡ after_row_steps cp0.now tlb.now (record { cpu = cpu.old; frames = frames.old }) result }
-    ensures retire { RowStepsRetire cp0.now tlb.now (record { cpu = cpu.old; frames = frames.old }) result }
-    ensures most { result ≤ most }
-    ensures stop { result < most → has_retired (row_step cp0.now tlb.now frames.new cpu.new) ≡ false }
+pub(crate) fn run_rows(cpu: &mut Cpu, frames: &mut Frames, tlb: &Tlb, cp0: &Cp0, most: u32) -> Steps
+    ensures machine { record { cpu = cpu.new; frames = frames.new } ≡ after_row_steps cp0.now tlb.now (record { cpu = cpu.old; frames = frames.old }) result.made }
+    ensures retire { RowStepsRetire cp0.now tlb.now (record { cpu = cpu.old; frames = frames.old }) result.made }
+    ensures most { result.made ≤ most }
+    ensures stop { result.made < most → has_retired (row_step cp0.now tlb.now frames.new cpu.new) ≡ false }
+    ensures wanted { result.wanted ≡ wanted_behind result.made most cp0.now tlb.now (record { cpu = cpu.new; frames = frames.new }) }
     ensures size { length frames.new ≡ length frames.old }
 {
     let mut live = Live::of(cpu);
-    let mut done = 0;
-    while done < most {
+    let mut made = 0;
+    while made < most {
         let Some(code) = CodePage::of(frames, tlb, cp0, live.pc) else {
-            break;
+            let wanted = Some(live.pc);
+            live.settle();
+            return Steps { made, wanted };
         };
-        done += run_page(&mut live, frames, tlb, cp0, code, most - done);
-        if code.has(live.pc) {
-            break;
+        made += run_page(&mut live, frames, tlb, cp0, code, most - made);
+        if made < most && code.has(live.pc) {
+            let wanted = named_address(&live, code.word(frames, tlb, cp0, live.pc));
+            live.settle();
+            return Steps { made, wanted };
         }
     }
     live.settle();
-    done
+    Steps { made, wanted: None }
 }

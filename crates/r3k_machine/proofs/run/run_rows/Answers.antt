@@ -1,15 +1,28 @@
-use Rattle.std.proofs.Common.{arith, rules}
+use Rattle.std.proofs.Common.{arith, rules, ◌∙◌}
+use Rattle.mips_step.specs.Live.{joined}
+use Rattle.r3k_machine.specs.Steps.{Running}
 use Rattle.r3k_machine.proofs.MoreSteps.{after_more, all_more, has_moved}
 use Rattle.r3k_machine.proofs.run.run_rows.Goals as goal
+use Rattle.r3k_machine.proofs.run.run_rows.Goals.{else-made-most-via-then-made-most+else-has, else-made-most-via-else-made-most}
 
-pub loop-done-preserved : goal.loop-done-preserved
-loop-done-preserved c = search (rules, after_more, all_more)
+pub loop-made-preserved : goal.loop-made-preserved
+loop-made-preserved c = search (rules, after_more, all_more)
 
-pub loop-done-smaller : goal.loop-done-smaller
-loop-done-smaller c = grind (arith, has_moved)
+pub loop-made-smaller : goal.loop-made-smaller
+loop-made-smaller c = elim c.else-made-most.branch [
+  | else-made-most-via-then-made-most+else-has w ↦ grind (arith, has_moved)
+  | else-made-most-via-else-made-most w ↦ omega (arith, c.loop-made-test.true, w.if-made-most.false)
+]
 
-pub returns-clause-machine : goal.returns-clause-machine
-returns-clause-machine c = search (rules, after_more)
+pub returns-then-has-clause-machine : goal.returns-then-has-clause-machine
+returns-then-has-clause-machine c =
+    let first : Running = record { cpu = c.args.cpu.now; frames = c.args.frames.now } in
+    let before : Running = record { cpu = joined c.loop-made.live; frames = c.loop-made.frames } in
+    let ran = c.run_page-made.ensures.machine ∙ after_more c.args.cp0.now c.args.tlb.now first before c.loop-made.made c.run_page-made.result c.loop-made.invariant.machine in
+    search (rules, ran)
 
-pub returns-clause-retire : goal.returns-clause-retire
-returns-clause-retire c = search (rules, all_more)
+pub returns-then-has-clause-retire : goal.returns-then-has-clause-retire
+returns-then-has-clause-retire c =
+    let first : Running = record { cpu = c.args.cpu.now; frames = c.args.frames.now } in
+    let before : Running = record { cpu = joined c.loop-made.live; frames = c.loop-made.frames } in
+    all_more c.args.cp0.now c.args.tlb.now first before c.loop-made.made c.run_page-made.result c.loop-made.invariant.machine c.loop-made.invariant.retire c.run_page-made.ensures.retire

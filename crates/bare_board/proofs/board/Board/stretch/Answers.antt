@@ -4,11 +4,11 @@ use Rattle.bare_board.proofs.board.Board.stretch.Goals as goal
 
 pub returns-clause-lead : goal.returns-clause-lead
 returns-clause-lead c =
-    let calm = fewer c.args.period c.args.t c.calm_ticks-calm.result c.run.result c.args.self.now c.calm_ticks-calm.ensures.calm c.run.ensures.most in
-    leads c.law_retired_steps.ensures c.args.period c.args.t c.args.self.now c.run.result calm c.run.ensures.retire
+    let calm = fewer c.args.period c.args.t c.calm_ticks-calm.result c.run.result.made c.args.self.now c.calm_ticks-calm.ensures.calm c.run.ensures.most in
+    leads c.law_retired_steps.ensures c.args.period c.args.t c.args.self.now c.run.result.made calm c.run.ensures.retire
     c.run.new.self c.run.new.frames c.run.ensures.machine c.run.ensures.rows c.run.ensures.cp0
 
 pub returns-clause-stop : goal.returns-clause-stop
 returns-clause-stop c =
-    stops c.args.period c.args.t c.args.most c.calm_ticks-calm.result c.run.result c.args.self.now c.run.new.self c.run.new.frames
+    stops c.args.period c.args.t c.args.most c.calm_ticks-calm.result c.run.result.made c.args.self.now c.run.new.self c.run.new.frames
     c.calm_ticks-calm.ensures.next (λ less retires. search (rules, retires, c.run.ensures.stop less)) c.run.ensures.most c.run.ensures.cp0
