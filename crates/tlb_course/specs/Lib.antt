@@ -1,3 +1,4 @@
 pub mod Accesses
 pub mod Emptying
 pub mod Course
+pub mod Further

@@ -2,3 +2,7 @@
 //! of the fills, and what a whole run does. The definitions stand in `specs/` (`docs/MACHINE.md`, "The TLB under the
 //! kernel").
 #![tactic(auto)]
+
+mod laws;
+
+pub use laws::law_further;

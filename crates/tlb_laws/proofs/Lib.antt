@@ -6,3 +6,4 @@ mod Missing
 pub mod Running
 pub mod Refilling
 pub mod Ending
+mod RightRefill

@@ -90,3 +90,10 @@ TwoRefillsSuffice = (leads : ℕ → Option Mapping) (e : ℕ) (frames : List (L
     → next_refill leads e (vpns_over frames leads cpu) rows ≡ Some m
     → next_refill leads e (vpns_over frames leads cpu) (with_row_at rows first (row_for e m)) ≡ Some n
     → next_refill leads e (vpns_over frames leads cpu) (with_row_at (with_row_at rows first (row_for e m)) second (row_for e n)) ≡ None
+
+-- Where some access found no row, and each finds one behind a row that is written for a mapping, the mapping's VPN is
+-- that of the first miss.
+abbrev pub RightRefill : Type 0
+RightRefill = (e : ℕ) (vpns : List ℕ) (rows : List Row) (i : ℕ) (m : Mapping)
+    → e < environment_numbers → first_missing rows e vpns ≢ None
+    → first_missing (with_row_at rows i (row_for e m)) e vpns ≡ None → first_missing rows e vpns ≡ Some m.vpn

@@ -1,5 +1,5 @@
 //! The laws of steps over rows.
-ghost use Rattle.tlb_laws.specs.Laws.{FindsAreFlat, MissesRefill, RunsAreFlat, TwoRefillsSuffice};
+ghost use Rattle.tlb_laws.specs.Laws.{FindsAreFlat, MissesRefill, RightRefill, RunsAreFlat, TwoRefillsSuffice};
 
 /// A step each of whose accesses finds its row is the step over the mappings, and ends as it.
 pub fn law_finds()
@@ -20,4 +20,10 @@ pub fn law_runs()
 /// A step has at most two refills.
 pub fn law_two_refills()
     ensures { TwoRefillsSuffice }
+{}
+
+/// A row for a mapping by which all accesses of a step find their rows, and without which they don't, is that of its
+/// first miss.
+pub fn law_right_refill()
+    ensures { RightRefill }
 {}

@@ -4,4 +4,4 @@
 
 mod laws;
 
-pub use laws::{law_finds, law_misses, law_runs, law_two_refills};
+pub use laws::{law_finds, law_misses, law_right_refill, law_runs, law_two_refills};
