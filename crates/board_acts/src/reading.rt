@@ -1,12 +1,11 @@
 //! What is read of single parts.
-ghost use Rattle.std.specs.Prelude.{◌≡◌, ◌≤◌, ◌<◌, ◌-◌, length};
+ghost use Rattle.std.specs.Prelude.{◌≡◌, ◌<◌, length};
 ghost use Rattle.std.specs.Option.{option_map};
 ghost use Rattle.page_book.specs.Row.{is_owned_by};
-ghost use Rattle.revocation_book.specs.RevocationBook.{next_deadline};
-ghost use Rattle.slot_vector.specs.Slices.{left_of};
 ghost use Rattle.world_model.specs.Downloads.{handler_of_words};
 ghost use Rattle.world_model.specs.View.{view_seen};
 ghost use Rattle.board_model.specs.Showing.{page_seen};
+ghost use Rattle.board_model.specs.Stretch.{plain_ticks};
 ghost use Rattle.board_acts.specs.Parts.{space_in};
 
 use bind_book::Bindings;
@@ -67,9 +66,7 @@ pub fn unless_empty(handler: &Handler) -> Option<&Handler>
 
 /// How many of so many ticks come before the runner's last one, and before the next deadline.
 pub fn plain_most(slots: &Slots, revocations: &Revocations, time: u32, most: u32) -> u32
-    ensures most { result ≤ most }
-    ensures left { result ≤ left_of slots.now.runner - 1 }
-    ensures early { result ≤ next_deadline revocations.now - time }
+    ensures { result ≡ plain_ticks slots.now revocations.now time most }
 {
     let left = slots.left().saturating_sub(1);
     let early = revocations.next_deadline().saturating_sub(time);

@@ -40,10 +40,15 @@ settled_of b e = settled 2 (is_kept_by (mappings_of b.roster.list e)) (lookup_of
 abbrev pub with_lookups : Shown → ℕ → Shown
 with_lookups b e = record b { tlb = attempted e (step_seen b e) (settled_of b e) }
 
--- A miss at a VPN that leads by this mapping, or nowhere: the row that is refilled, and what is counted.
+-- A miss at a VPN that leads by this mapping, or nowhere: the row that is refilled, and what is counted of refills, and
+-- of all misses.
 abbrev pub rows_after_miss : ℕ → ℕ → Option Mapping → List Row → List Row
 rows_after_miss random e None rows = rows
 rows_after_miss random e (Some m) rows = with_row_at rows random (row_for e m)
+
+abbrev pub fills_after_refill : Bool → ℕ → Option Mapping → List Fills → List Fills
+fills_after_refill kept e None fills = fills
+fills_after_refill kept e (Some m) fills = with_fills (with_refill kept) e fills
 
 abbrev pub fills_after_miss : Bool → ℕ → Option Mapping → List Fills → List Fills
 fills_after_miss kept e None fills = with_fills with_forward e fills

@@ -1,9 +1,9 @@
 -- A stretch of plain ticks: in each of them the runner's step retires, and nothing else happens.
-use Rattle.std.specs.Prelude.{◌≡◌, ◌≤◌, ◌<◌, ℕ, ◌+◌, ◌-◌, []}
+use Rattle.std.specs.Prelude.{◌≡◌, ◌≤◌, ◌<◌, ℕ, ◌+◌, ◌-◌, min, []}
 use Rattle.guest_memory.specs.Steps.{AllRetire, Machine, after_steps}
-use Rattle.revocation_book.specs.RevocationBook.{next_deadline}
+use Rattle.revocation_book.specs.RevocationBook.{RevocationBook, next_deadline}
 use Rattle.r3k_cp0.specs.Random.{fallen_times}
-use Rattle.slot_vector.specs.Slices.{after_ticks, left_of}
+use Rattle.slot_vector.specs.Slices.{Slices, after_ticks, left_of}
 use Rattle.world_model.specs.Book.{running}
 use Rattle.world_model.specs.Event.{Schedule}
 use Rattle.world_model.specs.Tick.{served, turn}
@@ -33,6 +33,11 @@ pub record ArePlain (b : Shown) (e ticks : ℕ) : Type 0 where
   pub retire : AllRetire (lookup_of b e) (machine_of b) ticks
   pub left : ticks < left_of b.slots.runner
   pub early : ticks ≤ next_deadline b.revocations - b.time
+
+-- how many of the next ticks, of at most so many, come before the runner's last one and before the next deadline
+abbrev pub plain_ticks : Slices → RevocationBook → ℕ → ℕ → ℕ
+plain_ticks slots revocations time most =
+    min (min most (left_of slots.runner - 1)) (next_deadline revocations - time)
 
 -- Nothing happens from outside in the ticks from one time until another.
 pub record IsQuiet (schedule : Schedule) (from until : ℕ) : Type 0 where
