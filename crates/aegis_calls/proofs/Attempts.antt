@@ -1,6 +1,7 @@
 -- An attempt of the runner's step over the rows of the TLB, by what the machine made of it.
 use Rattle.std.proofs.Common.{◌≡◌, ◌<◌, ℕ, ◌/◌, List, Bool, true, false, Option, Some, None, refl, sym, ◌∙◌, ap, subst, arith, rules, length}
-use Rattle.std.specs.Prelude.{if◌then◌else◌, is_some}
+use Rattle.std.specs.Prelude.{if◌then◌else◌, is_some, IfSome}
+use Rattle.r3k_tlb.specs.Row.{page_numbers}
 use Rattle.aegis_limits.specs.Limits.{environment_numbers, page_size, vpn_end}
 use Rattle.mips_exec.specs.declared.exception.Exc.{Exc}
 use Rattle.mips_exec.specs.declared.exception.Outcome.{Outcome}
@@ -26,8 +27,9 @@ use Rattle.slot_vector.specs.Slices.{left_of}
 use Rattle.tlb_model.specs.Lookups.{first_missing}
 use Rattle.board_model.specs.Stretch.{stretched}
 use Rattle.aegis_calls.proofs.Stretched.{stretch_sound}
-use Rattle.aegis_calls.specs.Cached.{FindRows}
-use Rattle.tlb_laws.specs.Laws.{RunIsFlat, RunsFor, end_without_refill}
+use Rattle.aegis_calls.specs.Cached.{FindRows, IsStuck}
+use Rattle.mips_step.specs.WordStep.{has_retired}
+use Rattle.tlb_laws.specs.Laws.{FindsAreFlat, RunIsFlat, RunsFor, end_without_refill}
 use Rattle.tlb_laws.proofs.Running.{runs_are_flat}
 use Rattle.tlb_laws.proofs.Ending.{Missed, flat_end, missed_end}
 use Rattle.board_model.specs.Shown.{Shown, mappings_of}
@@ -69,6 +71,12 @@ made_of b e first m n frames cpu rows random sound small is user pid new_cpu mem
   new_rows = new_rows;
   new_random = new_random;
 }
+
+-- what a VPN leads by can be written into a row
+pub words_fit : (b : Shown) (e vpn : ℕ) (o : Option Mapping) → lookup_of b e vpn ≡ o → vpn < page_numbers → ((m : Mapping) → o ≡ Some m → m.page < page_numbers)
+    → IfSome o (λ m. (m.vpn < page_numbers) × (m.page < page_numbers))
+words_fit b e vpn None is small pages = tt
+words_fit b e vpn (Some m) is small pages = (subst (λ n. n < page_numbers) (sym (lookup_number b e vpn m is)) small, pages m refl)
 
 -- the board as it is shown
 pub attempted_as_shown : {b now : Shown} → b ≡ now → {e : ℕ} {x : Shown} {o : Outcome} → IsAttempted b e x o → IsAttempted now e x o
@@ -189,7 +197,7 @@ module _ (b : Shown) (e : ℕ) (m n : Machine) (frames : List (List ℕ)) (made 
         outcome = sym (ap outcome_of st);
       }
 
-  some_of : (o : Option Mapping) → is_some o ≡ true → (x : Mapping) × (o ≡ Some x)
+  pub some_of : (o : Option Mapping) → is_some o ≡ true → (x : Mapping) × (o ≡ Some x)
   some_of None h = search rules
   some_of (Some x) h = (x, refl)
 
@@ -253,3 +261,11 @@ module _ (b : Shown) (e : ℕ) (first m : Machine) (steps : ℕ) (cpu : first.cp
 
   pub run_found : steps < left_of b.slots.runner → FindRows b e steps
   run_found left = record { each = λ k less. found_at k less left }
+
+  -- where the machine stops behind them, the next step is stuck
+  pub stuck_behind : FindsAreFlat → (cp0 : Cp0) → current_pid cp0 ≡ e → is_user cp0 ≡ true → steps < left_of b.slots.runner
+      → has_retired (row_step cp0 b.tlb.rows (stretched b e steps).frames (stretched b e steps).cpu) ≡ false → IsStuck (stretched b e steps) e
+  stuck_behind finds cp0 pid user left stopped = λ found.
+      let v = stretched b e steps in
+      let flat = finds (lookup_of v) e cp0 b.tlb.rows v.frames v.cpu (runs_for v e cp0 (stretch_sound b e steps sound left) small pid user) found in
+      sym (ap has_retired flat.step) ∙ stopped

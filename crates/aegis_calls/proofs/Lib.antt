@@ -4,3 +4,5 @@ mod Emptying
 mod Looking
 mod Stretched
 mod Plain
+mod MoreTicks
+mod Refilled

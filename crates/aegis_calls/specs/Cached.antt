@@ -1,11 +1,14 @@
 -- What the TLB is behind a call, and behind ticks in which nothing happens from outside.
-use Rattle.std.specs.Prelude.{◌≡◌, ◌<◌, ℕ, ◌+◌, Some, None}
+use Rattle.std.specs.Prelude.{◌≡◌, ◌<◌, ℕ, ◌+◌, false, Some, None}
+use Rattle.mips_step.specs.WordStep.{has_retired}
 use Rattle.world_model.specs.Book.{running}
 use Rattle.world_model.specs.Event.{Schedule}
+use Rattle.board_model.specs.Doing.{step_seen}
 use Rattle.board_model.specs.Refilling.{vpns_of}
 use Rattle.board_model.specs.Shown.{Shown}
 use Rattle.board_model.specs.Showing.{world_of}
-use Rattle.board_model.specs.Stretch.{IsQuiet, stretched}
+use Rattle.board_model.specs.Stretch.{IsQuiet, plain_ticks, stretched}
+use Rattle.tlb_model.specs.Cache.{Cache}
 use Rattle.tlb_model.specs.Lookups.{first_missing}
 use Rattle.tlb_course.specs.Course.{cache_after_ticks, cache_called}
 
@@ -22,3 +25,18 @@ abbrev pub AreCachedTicks : Shown → Shown → ℕ → Type 0
 AreCachedTicks before now ticks =
     (schedule : Schedule) → IsQuiet schedule before.time (before.time + ticks)
     → now.tlb ≡ cache_after_ticks schedule (world_of before) ticks before.tlb
+
+-- the board after so many plain ticks, with what they made of the TLB
+abbrev pub stretched_with : Shown → ℕ → ℕ → Cache → Shown
+stretched_with b e ticks tlb = record (stretched b e ticks) { tlb = tlb }
+
+-- The environment's next step isn't made over the rows as they are: either an access of it finds no row, or it doesn't
+-- retire.
+abbrev pub IsStuck : Shown → ℕ → Type 0
+IsStuck b e = first_missing b.tlb.rows e (vpns_of b e) ≡ None → has_retired (step_seen b e) ≡ false
+
+-- Where fewer ticks went by than plain ones may, of at most so many, the runner's next step is stuck.
+abbrev pub GoesAsFar : Shown → Shown → ℕ → ℕ → Type 0
+GoesAsFar before now most ticks =
+    (e : ℕ) → running before.slots.runner ≡ Some e
+    → ticks < plain_ticks before.slots before.revocations before.time most → IsStuck now e

@@ -1,40 +1,123 @@
 //! Stretches of ticks in which the runner steps and nothing else happens, each as one call.
-ghost use Rattle.std.specs.Prelude.{◌≡◌, ◌≤◌, ◌+◌, Some};
+ghost use Rattle.std.specs.Prelude.{◌≡◌, ◌≤◌, ◌<◌, ◌+◌, ◌-◌, IsSome, None, Some};
 ghost use Rattle.aegis_limits.specs.Limits.{most_ticks};
+ghost use Rattle.revocation_book.specs.RevocationBook.{next_deadline};
+ghost use Rattle.slot_vector.specs.Slices.{left_of};
 ghost use Rattle.world_model.specs.Book.{is_idle_book, running};
-ghost use Rattle.board_model.specs.Stretch.{ArePlain, stretched};
-ghost use Rattle.aegis_calls.specs.Cached.{AreCachedTicks, FindRows};
+ghost use Rattle.board_model.specs.Stretch.{ArePlain, plain_ticks, stretched};
+ghost use Rattle.aegis_calls.specs.Cached.{AreCachedTicks, FindRows, GoesAsFar, IsStuck, stretched_with};
 ghost use Rattle.aegis_calls.specs.QuietTicks.{AreQuietTicks, AreSteadyTicks};
 
 use crate::board::Board;
-use board_acts::plain_most;
+use aegis_limits::VPN_END;
+use board_acts::{plain_most, refill, space_in};
 use board_model::law_stretch;
+use guest_memory::PAGE_BYTES;
+use r3k_machine::Steps;
+use tlb_course::law_further;
+use tlb_laws::{law_finds, law_right_refill};
 use world_model::WorldView;
+
+/// No step was made, and none is to be tried again.
+const NO_STEPS: Steps = Steps {
+    made: 0,
+    wanted: None,
+};
 
 impl Board {
     ghost use Rattle.board_model.specs.Showing.{world_of};
+
+    /// The runner makes plain ticks over the rows as they are: at most so many, which come before its last tick and the next
+    /// deadline.
+    fn run_found(&mut self, env: u8, most: u32) -> Steps
+        requires runs { running self.old.slots.runner ≡ Some env }
+        requires time { self.old.time + most ≤ most_ticks }
+        requires left { most < left_of self.old.slots.runner }
+        requires early { most ≤ next_deadline self.old.revocations - self.old.time }
+        ensures after { self.new ≡ stretched self.old env result.made }
+        ensures plain { ArePlain self.old env result.made }
+        ensures found { FindRows self.old env result.made }
+        ensures most { result.made ≤ most }
+        ensures wanted { IsSome result.wanted → result.made < most }
+        ensures stop { result.made < most → IsStuck self.new env }
+    {
+        law_finds();
+        self.machine.set_user(env);
+        let steps = self.machine.run(&mut self.frames, most);
+        self.slots.pass(steps.made);
+        self.time.pass(steps.made);
+        steps
+    }
+
+    /// A row is refilled for an address that the runner's next step may want, and then it makes plain ticks, the first of
+    /// which missed there. If it makes none, nothing has changed.
+    fn run_refilled(&mut self, env: u8, address: u32, most: u32) -> Steps
+        requires runs { running self.old.slots.runner ≡ Some env }
+        requires time { self.old.time + most ≤ most_ticks }
+        requires left { most < left_of self.old.slots.runner }
+        requires early { most ≤ next_deadline self.old.revocations - self.old.time }
+        requires stuck { IsStuck self.old env }
+        ensures after { self.new ≡ stretched_with self.old env result.made self.new.tlb }
+        ensures plain { ArePlain self.old env result.made }
+        ensures tlb { AreCachedTicks self.old self.new result.made }
+        ensures most { result.made ≤ most }
+        ensures wanted { IsSome result.wanted → result.made < most }
+        ensures stop { result.made < most → IsStuck self.new env }
+    {
+        self.law_sound();
+        law_stretch();
+        law_right_refill();
+        let vpn = address / PAGE_BYTES;
+        if vpn >= VPN_END {
+            return NO_STEPS;
+        }
+        let random = self.machine.random();
+        let row = self.machine.tlb.read(random);
+        let fills = self.fills[usize::from(env)];
+        let space = space_in(&self.roster, &self.bindings, env);
+        if !refill(&mut self.machine.tlb, &mut self.fills, &space, random, vpn) {
+            return NO_STEPS;
+        }
+        let steps = self.run_found(env, most);
+        if steps.made > 0 {
+            self.machine.fall();
+            return steps;
+        }
+        self.machine.tlb.write(random, row.hi, row.lo);
+        self.fills[usize::from(env)] = fills;
+        NO_STEPS
+    }
 
     /// The runner makes plain ticks, at most so many; the result is how many.
     fn run_plain(&mut self, env: u8, most: u32) -> u32
         requires runs { running self.old.slots.runner ≡ Some env }
         requires time { self.old.time + most ≤ most_ticks }
-        ensures after { self.new ≡ stretched self.old env result }
+        ensures after { self.new ≡ stretched_with self.old env result self.new.tlb }
         ensures plain { ArePlain self.old env result }
-        ensures found { FindRows self.old env result }
+        ensures tlb { AreCachedTicks self.old self.new result }
         ensures most { result ≤ most }
+        ensures stop { result < plain_ticks self.old.slots self.old.revocations self.old.time most → IsStuck self.new env }
     {
-        let most = plain_most(&self.slots, &self.revocations, self.time.ticks(), most);
-        self.machine.set_user(env);
-        let ticks = self.machine.run(&mut self.frames, most);
-        self.slots.pass(ticks);
-        self.time.pass(ticks);
-        ticks
+        self.law_sound();
+        law_stretch();
+        law_further();
+        let plain = plain_most(&self.slots, &self.revocations, self.time.ticks(), most);
+        let mut steps = self.run_found(env, plain);
+        let mut done = steps.made;
+        while let Some(address) = steps.wanted {
+            steps = self.run_refilled(env, address, plain - done);
+            if steps.made == 0 {
+                break;
+            }
+            done += steps.made;
+        }
+        done
     }
 
     /// Ticks in which nothing happens but a step of the runner's that retires, at most so many; the result is how many, and
-    /// may be none. It ends before the last tick of the slice, before a deadline, and before a call or an exception, which
-    /// are left to a tick by its parts. It writes no row, and changes no claim. No deadline is served in it, no turn taken,
-    /// and nobody sends.
+    /// may be none. It ends before the last tick of the slice, before a deadline, and before a call, an exception or a step
+    /// that misses twice, which are left to a tick by its parts. It changes no claim. No deadline is served in it, no turn
+    /// taken, and nobody sends.
     pub fn stretch(&mut self, most: u32) -> u32
         requires time { self.old.time + most ≤ most_ticks }
         ensures world { AreQuietTicks self.old self.new result }
@@ -42,6 +125,7 @@ impl Board {
         ensures tlb { AreCachedTicks self.old self.new result }
         ensures idle { is_idle_book (world_of self.new).book ≡ is_idle_book (world_of self.old).book }
         ensures most { result ≤ most }
+        ensures stop { GoesAsFar self.old self.new most result }
         ensures time { self.new.time ≡ self.old.time + result }
         ensures numbers { self.new.claims.next ≡ self.old.claims.next }
         ensures whole { self.new.roster.spare ≡ self.old.roster.spare }

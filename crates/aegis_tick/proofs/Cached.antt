@@ -6,7 +6,7 @@ use Rattle.world_model.specs.World.{World}
 use Rattle.run_model.specs.Run.{once_happened, world_after_ticks}
 use Rattle.tlb_model.specs.Cache.{Cache}
 use Rattle.tlb_course.specs.Course.{cache_after_ticks, cache_ticked, next_cache}
-use Rattle.aegis_tick.proofs.Whole.{run_further, stays}
+use Rattle.aegis_tick.proofs.Whole.{stays}
 
 next_idle : (schedule : Schedule) (w : World) (c : Cache) → is_idle_book w.book ≡ true → next_cache schedule w c ≡ c
 next_idle schedule w c idle = rw idle refl
@@ -27,12 +27,3 @@ cache_stays schedule w i (suc k) c idle =
 pub cache_goes_on : (schedule : Schedule) (w : World) (i : ℕ) (c : Cache) → is_idle_book (world_after_ticks schedule w i).book ≡ false
     → cache_after_ticks schedule w (i + 1) c ≡ cache_ticked (once_happened schedule (world_after_ticks schedule w i)) (cache_after_ticks schedule w i c)
 cache_goes_on schedule w i c busy = rw add-one (next_busy schedule (world_after_ticks schedule w i) (cache_after_ticks schedule w i c) busy)
-
--- ticks after ticks
-pub cache_further : (schedule : Schedule) (w : World) (t k : ℕ) (c : Cache) → cache_after_ticks schedule (world_after_ticks schedule w t) k (cache_after_ticks schedule w t c) ≡ cache_after_ticks schedule w (t + k) c
-cache_further schedule w t zero c = rw add-zero refl
-cache_further schedule w t (suc k) c =
-    rw add-suc (
-    ap (λ (v : World). next_cache schedule v (cache_after_ticks schedule (world_after_ticks schedule w t) k (cache_after_ticks schedule w t c))) (run_further schedule w t k)
-    ∙ ap (next_cache schedule (world_after_ticks schedule w (t + k))) (cache_further schedule w t k c)
-    )

@@ -19,8 +19,3 @@ stays schedule w i (suc k) idle = rw add-suc (ap (next_world schedule) (stays sc
 -- a busy one goes through what happens in its next tick, and then the tick
 pub goes_on : (schedule : Schedule) (w : World) (i : ℕ) → is_idle_book (world_after_ticks schedule w i).book ≡ false → world_after_ticks schedule w (i + 1) ≡ run_phases (world_after_ticks schedule w i) (next_phases schedule (world_after_ticks schedule w i))
 goes_on schedule w i busy = rw add-one (next_busy schedule (world_after_ticks schedule w i) busy)
-
--- ticks after ticks
-pub run_further : (schedule : Schedule) (w : World) (t k : ℕ) → world_after_ticks schedule (world_after_ticks schedule w t) k ≡ world_after_ticks schedule w (t + k)
-run_further schedule w t zero = rw add-zero refl
-run_further schedule w t (suc k) = rw add-suc (ap (next_world schedule) (run_further schedule w t k))

@@ -23,6 +23,7 @@ use aegis_limits::OutOfMemory;
 use external_event::Event;
 use kernel_journal::RunEnd;
 use run_model::law_accounts;
+use tlb_course::law_further;
 use world_model::WorldView;
 
 /// Rows enough for a tick, with its deadlines, its turn, its step and the timer; and for an event.
@@ -172,6 +173,7 @@ fn run_ticks(board: &mut Board, events: &[Event], ticks: u32) -> Result<(), OutO
     ensures sure { TICK_ROWS * (length events.now + ticks) ≤ board.old.ledger.spare → IsOk result }
 {
     law_accounts();
+    law_further();
     let mut next = 0;
     let mut soon = next_time(events, next);
     let mut done = 0;

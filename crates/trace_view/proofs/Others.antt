@@ -14,7 +14,7 @@ use Rattle.board_model.specs.Showing.{world_of}
 use Rattle.board_model.specs.Stretch.{AreSteady, IsAtStep, IsQuiet}
 use Rattle.wire_model.specs.Laws.{TimeIsTick}
 use Rattle.aegis_tick.specs.Halves.{first_half, mid}
-use Rattle.aegis_tick.proofs.Whole.{run_further}
+use Rattle.tlb_course.specs.Further.{WorldsGoOn}
 use Rattle.trace_view.specs.Others.{AnotherRuns}
 use Rattle.trace_view.specs.Trace.{tick_line, tick_lines}
 
@@ -33,11 +33,11 @@ no_line schedule v u e r nothing step runs other =
     let middle : mid schedule v ≡ v = ap (λ (xs : List Occurrence). first_half (run_phases v (map happen xs))) nothing ∙ step in
     ap (λ (m : World). tick_line e m u) middle ∙ rw (other_runner e r v.book.runner runs other, none_and) refl
 
-module _ (times : TimeIsTick) (schedule : Schedule) (w : World) (start : w.book.time ≡ 0) (b : Shown) (e t k : ℕ)
+module _ (times : TimeIsTick) (further : WorldsGoOn) (schedule : Schedule) (w : World) (start : w.book.time ≡ 0) (b : Shown) (e t k : ℕ)
     (at : world_of b ≡ world_after_ticks schedule w t) (quiet : IsQuiet schedule t (t + k)) (steady : AreSteady b schedule k)
     (others : 0 < k → AnotherRuns e (world_of b)) where
   there : (i : ℕ) → world_after_ticks schedule (world_of b) i ≡ world_after_ticks schedule w (t + i)
-  there i = ap (λ (v : World). world_after_ticks schedule v i) at ∙ run_further schedule w t i
+  there i = ap (λ (v : World). world_after_ticks schedule v i) at ∙ further schedule w t i
 
   line_at : (i : ℕ) → i < k → (let v = world_after_ticks schedule w (t + i) in tick_line e (mid schedule v) (next_world schedule v) ≡ [])
   line_at i less =

@@ -26,6 +26,7 @@ use external_event::Event;
 use line_text::{Word, push_line, push_word};
 use run_report::push_end_line;
 use std::alloc::Global;
+use tlb_course::law_further;
 use wire_model::law_time;
 use world_model::WorldView;
 
@@ -85,6 +86,7 @@ fn push_ticks(
     law_halves();
     law_idle();
     law_time();
+    law_further();
     let mut left = events;
     let mut done = 0;
     while done < ticks {

@@ -14,8 +14,8 @@ use Rattle.aegis_tick.specs.Course.{IsCutOff, next_time_of, occurrences, world_w
 use Rattle.aegis_tick.proofs.Coming.{happens_next, next_coming, next_later, next_ordered, next_within, none_before, order_later}
 use Rattle.aegis_tick.proofs.Happening.{cut_accounted, cut_off, then_ticks}
 use Rattle.aegis_tick.proofs.Refusals.{on_err}
-use Rattle.aegis_tick.proofs.Cached.{cache_further, cache_goes_on, cache_stays}
-use Rattle.aegis_tick.proofs.Whole.{goes_on, run_further, stays}
+use Rattle.aegis_tick.proofs.Cached.{cache_goes_on, cache_stays}
+use Rattle.aegis_tick.proofs.Whole.{goes_on, stays}
 use Rattle.aegis_tick.proofs.running.run_ticks.Goals as goal
 
 pub returns-then-idle-clause-world : goal.returns-then-idle-clause-world
@@ -117,11 +117,11 @@ loop-done-preserved c =
     rw (c.take_due-now.ensures.next) (record {
       world = c.stretch-done.ensures.world schedule quiet
           ∙ ap (λ (u : World). world_after_ticks schedule u k) once
-          ∙ run_further schedule w (t + 1) k;
+          ∙ c.law_further.ensures.worlds schedule w (t + 1) k;
       tlb = c.stretch-done.ensures.tlb schedule quiet
           ∙ ap (λ (u : World). cache_after_ticks schedule u k c.tick_with.new.board.tlb) once
           ∙ ap (cache_after_ticks schedule (world_after_ticks schedule w (t + 1)) k) then
-          ∙ cache_further schedule w (t + 1) k start;
+          ∙ c.law_further.ensures.caches schedule w (t + 1) k start;
       within = omega arith;
       whole = c.stretch-done.ensures.whole ∙ c.in_ok-tick_with.ensures.ticked.whole;
       time = c.stretch-done.ensures.time ∙ ap (λ (m : ℕ). m + k) time;

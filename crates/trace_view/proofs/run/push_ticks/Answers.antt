@@ -10,7 +10,6 @@ use Rattle.run_model.specs.Run.{next_world, world_after_ticks}
 use Rattle.aegis_tick.specs.Course.{occurrences, world_with}
 use Rattle.aegis_tick.specs.Halves.{first_half, mid, second_half}
 use Rattle.trace_view.specs.Trace.{tick_line, tick_lines}
-use Rattle.aegis_tick.proofs.Whole.{run_further}
 use Rattle.trace_view.proofs.Others.{no_lines}
 use Rattle.trace_view.proofs.Ticks.{lines_more, one_more}
 use Rattle.trace_view.proofs.run.push_ticks.Goals as goal
@@ -56,8 +55,8 @@ loop-done-preserved c =
           ∙ (λ i. now.text i ++ tick_line e (middle i) (next i))
           ∙ append_assoc c.args.out.now.items (tick_lines schedule w e t) (tick_line e (mid schedule at) (next_world schedule at))
           ∙ ap (λ (lines : List ℕ). c.args.out.now.items ++ lines) (sym (lines_more schedule w e t))
-          ∙ ap (λ (lines : List ℕ). c.args.out.now.items ++ lines) (sym (no_lines c.law_time.ensures schedule w c.requires.fresh.time b e (t + 1) k after quiet (others.steady schedule quiet_board) others.others));
-      world = others.world schedule quiet_board ∙ ap (λ (u : World). world_after_ticks schedule u k) after ∙ run_further schedule w (t + 1) k;
+          ∙ ap (λ (lines : List ℕ). c.args.out.now.items ++ lines) (sym (no_lines c.law_time.ensures c.law_further.ensures.worlds schedule w c.requires.fresh.time b e (t + 1) k after quiet (others.steady schedule quiet_board) others.others));
+      world = others.world schedule quiet_board ∙ ap (λ (u : World). world_after_ticks schedule u k) after ∙ c.law_further.ensures.worlds schedule w (t + 1) k;
       within = omega arith;
       whole = others.whole ∙ ticked.whole;
       time = others.time ∙ ap (λ (m : ℕ). m + k) time;

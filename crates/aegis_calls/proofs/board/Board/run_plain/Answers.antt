@@ -1,61 +1,46 @@
--- Plain ticks over the rows of the TLB.
-use Rattle.std.proofs.Common.{rules, ◌≡◌, ◌<◌, ℕ, ap, ◌∙◌, refl, subst, arith, Option, Some}
-use Rattle.r3k_cp0.specs.declared.registers.Cp0.{Cp0}
-use Rattle.r3k_cp0.specs.Random.{fallen_times}
-use Rattle.r3k_machine.specs.declared.machine.Machine.{Machine}
-use Rattle.r3k_machine.specs.Steps.{Running, after_row_steps}
-use Rattle.slot_vector.specs.Slices.{HasTicks, left_of}
-use Rattle.world_model.specs.Book.{running}
-use Rattle.world_model.specs.declared.slot.Runner.{Runner}
-use Rattle.tlb_laws.specs.Laws.{RunIsFlat}
+-- Plain ticks, with refills between them.
+use Rattle.std.proofs.Common.{ap, ◌∙◌, arith}
 use Rattle.board_model.specs.Shown.{Shown}
-use Rattle.board_model.specs.Doing.{lookup_of}
-use Rattle.board_model.specs.Stretch.{ArePlain, stretched}
-use Rattle.aegis_limits.specs.Limits.{environment_numbers}
-use Rattle.aegis_calls.specs.Cached.{FindRows}
-use Rattle.aegis_calls.proofs.Attempts.{run_found, run_made}
-use Rattle.aegis_calls.proofs.Runner.{runner_live, seen}
+use Rattle.aegis_calls.proofs.MoreTicks.{all_cached, all_plain, board_further, none_cached, with_its_tlb}
+use Rattle.aegis_calls.proofs.Plain.{stretch_falls}
 use Rattle.aegis_calls.proofs.board.Board.run_plain.Goals as goal
 
-has_ticks : (o : Option Runner) → HasTicks o → (e : ℕ) → running o ≡ Some e → 0 < left_of o
-has_ticks o has e runs = search rules
+pub loop-steps-init : goal.loop-steps-init
+loop-steps-init c =
+    let b = c.args.self.now in
+    let e = c.args.env in
+    let k = c.run_found-steps.result.made in
+    let first = c.run_found-steps.ensures in
+    record {
+      after = with_its_tlb b c.run_found-steps.new.self e k first.after;
+      plain = first.plain;
+      tlb = λ schedule quiet.
+          ap (λ (s : Shown). s.tlb) first.after
+          ∙ stretch_falls c.law_stretch.ensures.world c.law_stretch.ensures.steady b e k schedule (record { sound = c.law_sound.ensures; runs = c.requires.runs }) first.plain first.found quiet;
+      most = first.most;
+      wanted = first.wanted;
+      stuck = first.stop;
+    }
 
-small : (c : goal.After-pass-2) → c.args.env < environment_numbers
-small c = omega (arith, (runner_live c.self.view_is c.self.invariant c.requires.runs).0, c.self.invariant.few)
+pub loop-steps-preserved : goal.loop-steps-preserved
+loop-steps-preserved c =
+    let b = c.args.self.now in
+    let v = c.loop-steps.self in
+    let now = c.run_refilled-steps.new.self in
+    let e = c.args.env in
+    let j = c.loop-steps.done in
+    let k = c.run_refilled-steps.result.made in
+    let before = c.loop-steps.invariant in
+    let more = c.run_refilled-steps.ensures in
+    record {
+      after = board_further b v now e j k before.after more.after;
+      plain = all_plain b v now e j k before.after before.plain more.plain;
+      tlb = all_cached b v now e j k before.after c.law_stretch.ensures.world c.law_further.ensures.caches (record { sound = c.law_sound.ensures; runs = c.requires.runs }) before.plain before.tlb more.tlb;
+      most = omega (arith, before.most, more.most);
+      wanted = λ some. omega (arith, before.most, more.wanted some);
+      stuck = λ less. more.stop (omega (arith, before.most, less));
+    }
 
-flat : (c : goal.After-pass-2) → RunIsFlat (lookup_of (seen c.self.view_is) c.args.env) c.set_user.new.self.cp0 c.self.inside.machine.tlb c.self.inside.frames c.self.inside.machine.cpu c.run-ticks.result
-flat c =
-    run_made (seen c.self.view_is) c.args.env c.self.inside.machine c.set_user.new.self c.run-ticks.result refl refl c.self.invariant (small c)
-    c.set_user.ensures.machine c.set_user.ensures.user c.set_user.ensures.pid c.run-ticks.ensures.retire
-
-left : (c : goal.After-pass-2) → c.run-ticks.result < left_of c.self.inside.slots.runner
-left c =
-    let some : 0 < left_of c.self.inside.slots.runner = has_ticks c.self.inside.slots.runner c.self.invariant.book.ticks c.args.env (ap (λ (s : Shown). running s.slots.runner) c.self.view_is ∙ c.requires.runs) in
-    omega (arith, c.run-ticks.ensures.most, c.plain_most-most.ensures.left, some)
-
-pub returns-clause-after : goal.returns-clause-after
-returns-clause-after c =
-    let b = seen c.self.view_is in
-    let first : c.set_user.new.self.cpu ≡ b.cpu = ap (λ (m : Machine). m.cpu) c.set_user.ensures.machine in
-    let rows : c.set_user.new.self.tlb ≡ b.tlb.rows = ap (λ (m : Machine). m.tlb) c.set_user.ensures.machine in
-    let ran = c.run-ticks.ensures.machine
-    ∙ ap (λ rs. after_row_steps c.set_user.new.self.cp0 rs (record { cpu = c.set_user.new.self.cpu; frames = b.frames }) c.run-ticks.result) rows
-    ∙ ap (λ x. after_row_steps c.set_user.new.self.cp0 b.tlb.rows (record { cpu = x; frames = b.frames }) c.run-ticks.result) first in
-    let cpu = ap (λ (r : Running). r.cpu) ran ∙ (flat c).registers in
-    let frames = ap (λ (r : Running). r.frames) ran ∙ (flat c).memory in
-    let kept : c.run-ticks.new.self.tlb ≡ b.tlb.rows = c.run-ticks.ensures.rows ∙ rows in
-    let random : c.run-ticks.new.self.cp0.random ≡ fallen_times b.tlb.random c.run-ticks.result =
-    ap (λ (x : Cp0). x.random) c.run-ticks.ensures.cp0 ∙ ap (λ (m : Machine). fallen_times m.cp0.random c.run-ticks.result) c.set_user.ensures.machine in
-    (λ i. record b { frames = frames i; cpu = cpu i; slots = c.pass.ensures i; time = c.pass-2.ensures i; tlb = record b.tlb { rows = kept i; random = random i } })
-    ∙ ap (λ (s : Shown). stretched s c.args.env c.run-ticks.result) c.self.view_is
-
-pub returns-clause-plain : goal.returns-clause-plain
-returns-clause-plain c =
-    subst (λ (s : Shown). ArePlain s c.args.env c.run-ticks.result) c.self.view_is
-    (record { retire = (flat c).retire; left = left c; early = omega (arith, c.run-ticks.ensures.most, c.plain_most-most.ensures.early, c.ticks.ensures.ticks) })
-
-pub returns-clause-found : goal.returns-clause-found
-returns-clause-found c =
-    subst (λ (s : Shown). FindRows s c.args.env c.run-ticks.result) c.self.view_is
-    (run_found (seen c.self.view_is) c.args.env c.self.inside.machine c.set_user.new.self c.run-ticks.result refl refl c.self.invariant (small c)
-    c.set_user.ensures.machine c.set_user.ensures.user c.set_user.ensures.pid c.run-ticks.ensures.retire (left c))
+pub returns-then-steps-eq0-clause-tlb : goal.returns-then-steps-eq0-clause-tlb
+returns-then-steps-eq0-clause-tlb c =
+    none_cached c.args.self.now c.loop-steps.self c.run_refilled-steps.new.self c.loop-steps.done c.run_refilled-steps.result.made c.if-steps-eq0.true c.loop-steps.invariant.tlb c.run_refilled-steps.ensures.tlb

@@ -1,11 +1,11 @@
--- In plain ticks Random falls, and nothing else becomes of the TLB.
-use Rattle.std.proofs.Common.{sym, ap, ◌∙◌}
-use Rattle.board_model.specs.Shown.{Shown}
-use Rattle.aegis_calls.proofs.Plain.{stretch_falls}
+-- So many plain ticks went by, and the runner's next step is stuck where more might have.
+use Rattle.std.proofs.Common.{◌≡◌, ◌∙◌, sym, subst, ℕ, Some, Option}
+use Rattle.aegis_calls.specs.Cached.{IsStuck}
 use Rattle.aegis_calls.proofs.board.Board.stretch.Goals as goal
 
-pub returns-in-Some-clause-tlb : goal.returns-in-Some-clause-tlb
-returns-in-Some-clause-tlb c = λ schedule quiet.
-    ap (λ (s : Shown). s.tlb) c.run_plain.ensures.after
-    ∙ stretch_falls c.law_stretch.ensures.world c.law_stretch.ensures.steady c.args.self.now c.in-Some.env c.run_plain.result schedule
-    (record { sound = c.law_sound.ensures; runs = sym c.runner.ensures ∙ c.in-Some.is }) c.run_plain.ensures.plain c.run_plain.ensures.found quiet
+same_runner : (o : Option ℕ) (e f : ℕ) → o ≡ Some e → o ≡ Some f → e ≡ f
+same_runner o e f is too = let both : Some e ≡ Some f = sym is ∙ too in cc
+
+pub returns-in-Some-clause-stop : goal.returns-in-Some-clause-stop
+returns-in-Some-clause-stop c = λ e runs less.
+    subst (IsStuck c.run_plain.new.self) (same_runner _ c.in-Some.env e (sym c.runner.ensures ∙ c.in-Some.is) runs) (c.run_plain.ensures.stop less)

@@ -1,16 +1,14 @@
 -- An attempt of the runner's step.
-use Rattle.std.proofs.Common.{◌≡◌, ◌<◌, Some, None, Option, ℕ, ap, sym, ◌∙◌, refl, subst, arith, ◌/◌}
-use Rattle.std.specs.Prelude.{IfSome, is_some}
+use Rattle.std.proofs.Common.{◌≡◌, ap, sym, ◌∙◌, refl, arith, ◌/◌}
+use Rattle.std.specs.Prelude.{is_some}
 use Rattle.mips_exec.specs.declared.exception.Outcome.TheVariants as outcome
-use Rattle.env_frames.specs.declared.mapping.Mapping.{Mapping}
 use Rattle.aegis_limits.specs.Limits.{page_size}
-use Rattle.r3k_tlb.specs.Row.{page_numbers}
 use Rattle.guest_memory.specs.Space.{SpaceValue, lookup}
 use Rattle.board_model.specs.Refilling.{fills_after_miss, is_kept_by, rows_after_miss}
-use Rattle.board_model.specs.Shown.{Shown, mappings_of}
+use Rattle.board_model.specs.Shown.{mappings_of}
 use Rattle.board_model.specs.Doing.{lookup_of}
-use Rattle.board_model.proofs.Refills.{lookup_number, lookup_there}
-use Rattle.aegis_calls.proofs.Attempts.{IsMade, attempt_made, attempted_as_shown, answered_by_forward, answered_by_refill, answered_sound, its, made_of, missed, refilled_as_shown, vpn_small}
+use Rattle.board_model.proofs.Refills.{lookup_there}
+use Rattle.aegis_calls.proofs.Attempts.{IsMade, attempt_made, attempted_as_shown, answered_by_forward, answered_by_refill, answered_sound, its, made_of, missed, refilled_as_shown, vpn_small, words_fit}
 use Rattle.tlb_laws.proofs.Ending.{Missed}
 use Rattle.aegis_calls.proofs.Runner.{runner_live, seen}
 use Rattle.aegis_calls.proofs.board.Board.try_step.Goals as goal
@@ -57,11 +55,6 @@ made_space c =
     made_of (seen c.self.view_is) c.args.env c.self.inside.machine c.set_user.new.self c.user_step.new.self c.user_step.new.frames refl refl refl c.self.invariant
     (omega (arith, (runner_live c.self.view_is c.self.invariant c.requires).0, c.self.invariant.few))
     c.set_user.ensures.machine c.set_user.ensures.user c.set_user.ensures.pid c.user_step.ensures.cpu c.user_step.ensures.frames c.user_step.ensures.rows c.user_step.ensures.cp0
-
-words_fit : (b : Shown) (e vpn : ℕ) (o : Option Mapping) → lookup_of b e vpn ≡ o → vpn < page_numbers → ((m : Mapping) → o ≡ Some m → m.page < page_numbers)
-    → IfSome o (λ m. (m.vpn < page_numbers) × (m.page < page_numbers))
-words_fit b e vpn None is small pages = tt
-words_fit b e vpn (Some m) is small pages = (subst (λ n. n < page_numbers) (sym (lookup_number b e vpn m is)) small, pages m refl)
 
 pub answer_miss-is_refilled-requires-clause-words : goal.answer_miss-is_refilled-requires-clause-words
 answer_miss-is_refilled-requires-clause-words c =

@@ -1,0 +1,18 @@
+-- So many plain ticks were made, and what they made of the TLB is the model's.
+use Rattle.std.specs.Prelude.{◌≡◌, ◌≤◌, ◌<◌, ◌-◌, IsSome}
+use Rattle.board_model.specs.Stretch.{ArePlain}
+use Rattle.aegis_calls.specs.Cached.{AreCachedTicks, IsStuck, stretched_with}
+use Rattle.aegis_calls.proofs.board.Board.run_plain.Given as goal
+
+abbrev pub invariant-loop-steps : goal.invariant-loop-steps
+invariant-loop-steps l = record {
+  after : l.self ≡ stretched_with l.fn.self l.env l.done l.self.tlb;
+  plain : ArePlain l.fn.self l.env l.done;
+  tlb : AreCachedTicks l.fn.self l.self l.done;
+  most : l.done ≤ l.plain;
+  wanted : IsSome l.steps.wanted → l.done < l.plain;
+  stuck : l.done < l.plain → IsStuck l.self l.env;
+}
+
+abbrev pub decreases-loop-steps : goal.decreases-loop-steps
+decreases-loop-steps l = l.plain - l.done
