@@ -1,5 +1,5 @@
 -- The claims to which a packet comes.
-use Rattle.std.proofs.Common.{◌≡◌, ℕ, ◌+◌, ◌<◌, Bool, true, false, not, List, [], ◌∷◌, Option, Some, None, length, drop, refl, sym, ap, ◌∙◌, arith}
+use Rattle.std.proofs.Common.{◌≡◌, ℕ, ◌+◌, ◌<◌, Bool, true, false, List, [], ◌∷◌, Some, None, length, drop, refl, sym, ap, ◌∙◌, arith}
 use Rattle.std.specs.List.{list_all}
 use Rattle.std.specs.Prelude.{◌==◌, ◌&&◌, nat_le, filter, slice_index_or, bit_and, if◌then◌else◌}
 use Rattle.std.proofs.lemmas.Grind.{common_steps}
@@ -11,8 +11,8 @@ use Rattle.std.proofs.lemmas.List.{drop-drop}
 use Rattle.filter_core.specs.declared.atom.Atom.{Atom}
 use Rattle.filter_core.specs.Matching.{field, matches}
 use Rattle.filter_tree.specs.ClaimBook.{ClaimValue}
-use Rattle.filter_tree.specs.Tree.{AreInOrder, IsSplit, begins, begins_with, comes_before, first_value, is_branch, lower_number, lowest, matches_from, starts_with, leaf_value}
-use Rattle.filter_tree.proofs.Lowest.{lower_join, lowest_filter, lowest_parts, lowest_none, lowest_same}
+use Rattle.filter_tree.specs.Tree.{AreInOrder, begins, begins_with, comes_before, first_value, is_branch, lowest, matches_from, starts_with, leaf_value}
+use Rattle.filter_tree.proofs.Lowest.{lowest_filter, lowest_none, lowest_same}
 use Rattle.filter_tree.proofs.Order.{has_own_shape, tails_before}
 
 -- a field that was read, or not
