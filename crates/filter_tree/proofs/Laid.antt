@@ -11,7 +11,7 @@ use Rattle.filter_tree.specs.declared.node.Node.{Node}
 use Rattle.filter_tree.specs.declared.node.Node.TheVariants.{End, Test, Read, Below, Equal, Claim}
 use Rattle.filter_tree.specs.declared.node.Onward.{Onward}
 use Rattle.filter_tree.specs.ClaimBook.{ClaimValue}
-use Rattle.filter_tree.specs.Laying.{Extends, IsBegun, IsLaid, IsParted, nodes_for}
+use Rattle.filter_tree.specs.Laying.{Extends, IsBegun, IsLaid, IsParted, nodes_for, test_node}
 use Rattle.filter_tree.specs.Nodes.{AreFrom, AreNodes, IsNode, IsOnward, Way, after_claim, way, way_from}
 use Rattle.filter_tree.specs.Prefixes.{prefixes_from}
 use Rattle.filter_tree.specs.Tree.{begins, begins_with, is_branch, lower_number, lowest, matches_from, starts_with, leaf_value}
@@ -177,13 +177,31 @@ either : (b : Bool) (n : ℕ) (w x : Way) → lower_number (Some n) w.found ≡ 
 either true n w x left right = left
 either false n w x left right = right
 
+-- the node that tests an atom
+is_test : (nodes : List Node) (place : ℕ) (a : Atom) (inside other : ℕ) → is_atom a ≡ true → inside < place → other < place → IsNode nodes place (test_node a inside other)
+is_test nodes place a inside other good here there =
+    elim (cases_Bool (a.width == 1)) [
+      | inl is ↦ rw is (eqb-true a.width 1 is, here, there)
+      | inr differs ↦ rw differs (good, here, there)
+    ]
+
+way_tested : (packet : List ℕ) (way : ℕ → ℕ → Way) (a : Atom) (inside other v : ℕ) → way_from packet way (test_node a inside other) v ≡ way_from packet way (Test a inside other) v
+way_tested packet way a inside other v =
+    elim (cases_Bool (a.width == 1)) [
+      | inl is ↦ rw is refl
+      | inr differs ↦ rw differs refl
+    ]
+
 -- a test in front of claims that all ask for its atom
 pub test_laid : (depth : ℕ) (a : Atom) (claims : List ClaimValue) (next inside made : Onward) (old mid new : List Node) → IsOnward old next → is_atom a ≡ true
     → is_branch depth a claims ≡ true → list_all (λ c. a.value == leaf_value depth c) claims ≡ true → IsLaid (depth + 1) claims next old mid inside
-    → made.place ≡ length mid → made.least ≡ inside.least → new ≡ mid ++ Test a inside.place next.place ∷ [] → IsLaid depth claims next old new made
+    → made.place ≡ length mid → made.least ≡ inside.least → new ≡ mid ++ test_node a inside.place next.place ∷ [] → IsLaid depth claims next old new made
 test_laid depth a claims next inside made old mid new onward good branch asked laid at least pushed =
     let all = (and_parts (starts_with depth a claims) (list_all (begins depth a) claims) branch).1 in
-    let t = top mid new (Test a inside.place next.place) made.place laid.nodes (good, laid.onward.within, omega (arith, onward.within, laid.extends.longer)) at pushed in
+    let is = is_test mid (length mid) a inside.place next.place good laid.onward.within (omega (arith, onward.within, laid.extends.longer)) in
+    let t = top mid new (test_node a inside.place next.place) made.place laid.nodes is at pushed in
+    let ways : (packet : List ℕ) (v : ℕ) → way packet new made.place v ≡ way_from packet (way packet mid) (Test a inside.place next.place) v =
+    λ packet v. t.ways packet v ∙ way_tested packet (way packet mid) a inside.place next.place v in
     let same = all_asked depth a.value claims asked in
     record {
       nodes = t.nodes;
@@ -191,12 +209,12 @@ test_laid depth a claims next inside made old mid new onward good branch asked l
       onward = record {
         within = t.within;
         free = λ packet v.
-            t.ways packet v
+            ways packet v
             ∙ rw (laid.onward.free packet v, next_same packet v next old mid onward laid.extends, next_same packet 0 next old mid onward laid.extends) refl
-            ∙ sym (t.ways packet 0);
+            ∙ sym (ways packet 0);
         least = record {
           none = λ packet v n below.
-              ap (λ (w : Way). lower_number (Some n) w.found) (t.ways packet v)
+              ap (λ (w : Way). lower_number (Some n) w.found) (ways packet v)
               ∙ either (atom_matches a packet) n (way packet mid inside.place v) (way packet mid next.place v)
               (laid.onward.least.none packet v n (omega (arith, below, least)))
               ((next_least next inside.least old mid onward laid.extends laid.below).none packet v n (omega (arith, below, least)));
@@ -204,7 +222,7 @@ test_laid depth a claims next inside made old mid new onward good branch asked l
       };
       below = omega (arith, least, laid.below);
       found = λ packet.
-          ap (λ (w : Way). w.found) (t.ways packet 0)
+          ap (λ (w : Way). w.found) (ways packet 0)
           ∙ elim (cases_Bool (atom_matches a packet)) [
             | inl is ↦ rw is (laid.found packet ∙ ap (λ (y : Option ℕ). lower_number y (way packet old next.place 0).found) (passes depth a packet claims all asked is))
             | inr differs ↦
@@ -212,7 +230,7 @@ test_laid depth a claims next inside made old mid new onward good branch asked l
                 ∙ ap (λ (y : Option ℕ). lower_number y (way packet old next.place 0).found) (fails depth a packet claims all asked differs))
           ];
       reads = λ packet.
-          let whole = ap (λ (w : Way). w.reads) (t.ways packet 0) in
+          let whole = ap (λ (w : Way). w.reads) (ways packet 0) in
           let more = rw same at (one_prefix_more depth a.value a claims branch) in
           elim (cases_Bool (atom_matches a packet)) [
             | inl is ↦ let here = rw is at whole in omega (arith, here, laid.reads packet, more)

@@ -6,7 +6,7 @@ use Rattle.std.proofs.lemmas.List.{get_or_append_left}
 use Rattle.std.proofs.Math.Seq.{get_or-append_seam}
 use Rattle.filter_core.specs.Matching.{field}
 use Rattle.filter_tree.specs.declared.node.Node.{Node}
-use Rattle.filter_tree.specs.declared.node.Node.TheVariants.{End, Test, Read, Below, Equal, Claim}
+use Rattle.filter_tree.specs.declared.node.Node.TheVariants.{End, Test, Byte, Read, Below, Equal, Claim}
 use Rattle.filter_tree.specs.Laying.{Extends}
 use Rattle.filter_tree.specs.Nodes.{AreFrom, AreNodes, IsNode, Way, way, way_among, way_from}
 use Rattle.filter_tree.specs.Tree.{lower_number}
@@ -26,6 +26,8 @@ from_same : (packet : List ℕ) (one other : ℕ → ℕ → Way) (nodes : List 
     → ((q w : ℕ) → q < place → one q w ≡ other q w) → way_from packet one node v ≡ way_from packet other node v
 from_same packet one other nodes place End v is same = refl
 from_same packet one other nodes place (Test a inside next) v is same =
+    rw (same inside v is.1, same next v is.2) refl
+from_same packet one other nodes place (Byte a inside next) v is same =
     rw (same inside v is.1, same next v is.2) refl
 from_same packet one other nodes place (Read offset width mask inside next) v is same =
     rw (same inside (bit_and (field offset width packet) mask) is.1, same next v is.2) refl
@@ -85,6 +87,7 @@ from_extends old new least place more within are = record {
 node_extends : (old new : List Node) (place : ℕ) (node : Node) → Extends old new → place ≤ length old → IsNode old place node → IsNode new place node
 node_extends old new place End more within is = tt
 node_extends old new place (Test a inside next) more within is = is
+node_extends old new place (Byte a inside next) more within is = is
 node_extends old new place (Read offset width mask inside next) more within is = is
 node_extends old new place (Below bound low high) more within is = is
 node_extends old new place (Equal value inside next) more within is = is

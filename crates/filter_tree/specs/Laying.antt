@@ -1,8 +1,10 @@
 -- What is laid out for some claims.
-use Rattle.std.specs.Prelude.{◌≡◌, ◌<◌, ◌≤◌, ◌==◌, ℕ, ◌+◌, ◌*◌, ◌^◌, List, [], ◌∷◌, None, drop, filter, length}
+use Rattle.std.specs.Prelude.{◌≡◌, ◌<◌, ◌≤◌, ◌==◌, ℕ, ◌+◌, ◌*◌, ◌^◌, List, [], ◌∷◌, None, drop, filter, if◌then◌else◌, length}
 use Rattle.std.specs.List.{AllByRecursion}
+use Rattle.filter_core.specs.declared.atom.Atom.{Atom}
 use Rattle.filter_core.specs.Filters.{most_atoms}
 use Rattle.filter_tree.specs.declared.node.Node.{Node}
+use Rattle.filter_tree.specs.declared.node.Node.TheVariants.{Byte, Test}
 use Rattle.filter_tree.specs.declared.node.Onward.{Onward}
 use Rattle.filter_tree.specs.ClaimBook.{ClaimValue}
 use Rattle.filter_tree.specs.Nodes.{AreFrom, AreNodes, IsOnward, way}
@@ -13,6 +15,10 @@ use Rattle.filter_tree.specs.Tree.{AreInOrder, lower_number, lowest, matches_fro
 abbrev pub nodes_for : ℕ → List ClaimValue → ℕ
 nodes_for depth [] = 0
 nodes_for depth (c ∷ claims) = 1 + 2 * length (drop depth c.filter) + nodes_for depth claims
+
+-- the node that tests an atom: fields of one byte have a node of their own
+abbrev pub test_node : Atom → ℕ → ℕ → Node
+test_node a inside other = if a.width == 1 then Byte a inside other else Test a inside other
 
 -- the value for which the first of some claims asks at a depth
 abbrev pub first_asked : ℕ → List ClaimValue → ℕ

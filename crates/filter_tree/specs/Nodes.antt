@@ -3,7 +3,7 @@ use Rattle.std.specs.Prelude.{◌≡◌, ◌<◌, ℕ, zero, suc, ◌+◌, true,
 use Rattle.filter_core.specs.Filters.{is_atom, is_width}
 use Rattle.filter_core.specs.Matching.{atom_matches, field}
 use Rattle.filter_tree.specs.declared.node.Node.{Node}
-use Rattle.filter_tree.specs.declared.node.Node.TheVariants.{End, Test, Read, Below, Equal, Claim}
+use Rattle.filter_tree.specs.declared.node.Node.TheVariants.{End, Test, Byte, Read, Below, Equal, Claim}
 use Rattle.filter_tree.specs.declared.node.Onward.{Onward}
 use Rattle.filter_tree.specs.Tree.{lower_number}
 
@@ -25,6 +25,7 @@ after_claim id w = record { found = lower_number (Some id) w.found; reads = w.re
 abbrev pub way_from : List ℕ → (ℕ → ℕ → Way) → Node → ℕ → Way
 way_from packet way End v = no_way
 way_from packet way (Test a inside other) v = after_read (if atom_matches a packet then way inside v else way other v)
+way_from packet way (Byte a inside other) v = after_read (if atom_matches a packet then way inside v else way other v)
 way_from packet way (Read offset width mask inside other) v =
     after_read (if nat_le (offset + width) (length packet) then way inside
     (bit_and (field offset width packet) mask) else way other v)
@@ -51,6 +52,7 @@ pub record AreFrom (nodes : List Node) (least place : ℕ) : Type 0 where
 abbrev pub IsNode : List Node → ℕ → Node → Type 0
 IsNode nodes place End = Unit {0}
 IsNode nodes place (Test a inside other) = (is_atom a ≡ true) × (inside < place) × (other < place)
+IsNode nodes place (Byte a inside other) = (a.width ≡ 1) × (inside < place) × (other < place)
 IsNode nodes place (Read offset width mask inside other) = (is_width width ≡ true) × (inside < place) × (other < place)
 IsNode nodes place (Below bound low high) = (low < place) × (high < place)
 IsNode nodes place (Equal value inside other) = (inside < place) × (other < place)

@@ -3,7 +3,7 @@ ghost use Rattle.std.specs.Prelude.{◌≡◌, ◌<◌, ◌≤◌, ◌+◌, ◌+
 ghost use Rattle.std.specs.List.{list_all};
 ghost use Rattle.std.specs.List.Sorted.{IsNonDecreasingBy};
 ghost use Rattle.filter_core.specs.Filters.{is_atom, most_atoms};
-ghost use Rattle.filter_tree.specs.Laying.{IsBegun, IsLaid, IsParted, first_asked, nodes_for};
+ghost use Rattle.filter_tree.specs.Laying.{IsBegun, IsLaid, IsParted, first_asked, nodes_for, test_node};
 ghost use Rattle.filter_tree.specs.Nodes.{AreNodes, IsOnward};
 ghost use Rattle.filter_tree.specs.Tree.{AreInOrder, is_branch, leaf_value};
 
@@ -23,6 +23,25 @@ pub(crate) fn push(nodes: &mut Vec<Node>, node: Node) -> u32
     let place = nodes.len() as u32;
     nodes.push(node).unwrap();
     place
+}
+
+/// The node that tests an atom.
+fn test_node(atom: Atom, inside: u32, other: u32) -> Node
+    ensures { result ≡ test_node atom inside other }
+{
+    if atom.width == 1 {
+        Node::Byte {
+            atom,
+            inside,
+            other,
+        }
+    } else {
+        Node::Test {
+            atom,
+            inside,
+            other,
+        }
+    }
 }
 
 /// Lays the node that ends a search, before all others. No claim is to come from there.
@@ -94,14 +113,8 @@ fn lay_branch(
     match parting(leaves, depth) {
         None => {
             let inside = lay(nodes, leaves, depth + 1, next);
-            let place = push(
-                nodes,
-                Node::Test {
-                    atom: *atom,
-                    inside: inside.place,
-                    other: next.place,
-                },
-            );
+            let node = test_node(*atom, inside.place, next.place);
+            let place = push(nodes, node);
             Onward {
                 place,
                 least: inside.least,
@@ -222,14 +235,8 @@ fn lay_alone(nodes: &mut Vec<Node>, leaf: &Leaf, depth: usize, next: Onward) -> 
     let mut inside = lay_claim(nodes, leaf, left, next);
     while left > depth {
         left -= 1;
-        let place = push(
-            nodes,
-            Node::Test {
-                atom: atoms[left],
-                inside: inside.place,
-                other: next.place,
-            },
-        );
+        let node = test_node(atoms[left], inside.place, next.place);
+        let place = push(nodes, node);
         inside = Onward {
             place,
             least: inside.least,

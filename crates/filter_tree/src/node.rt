@@ -12,6 +12,12 @@ pub(crate) enum Node {
         inside: u32,
         other: u32,
     },
+    /// The same, where the atom's field is one byte.
+    Byte {
+        atom: Atom,
+        inside: u32,
+        other: u32,
+    },
     /// A field is read; if it lies in the packet, the nodes inside decide by its bits under the mask.
     Read {
         offset: u16,

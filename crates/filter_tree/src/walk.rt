@@ -1,7 +1,8 @@
 //! How a search goes among the nodes of the tree.
-ghost use Rattle.std.specs.Prelude.{◌≡◌, ◌<◌, ◌≤◌, ◌+◌, Some, length, true};
-ghost use Rattle.filter_core.specs.Filters.{is_atom};
+ghost use Rattle.std.specs.Prelude.{ℕ, ◌≡◌, ◌<◌, ◌≤◌, ◌+◌, Some, length, slice_index_or, if◌then◌else◌};
+ghost use Rattle.filter_core.specs.declared.atom.Atom.{Atom as FilterAtom};
 ghost use Rattle.filter_core.specs.Matching.{atom_matches};
+ghost use Rattle.filter_tree.specs.declared.node.Node.TheVariants.{Byte, End};
 ghost use Rattle.filter_tree.specs.Nodes.{AreNodes, way};
 ghost use Rattle.filter_tree.specs.Tree.{lower_number};
 
@@ -20,20 +21,44 @@ fn lower_number(found: Option<u32>, id: u32) -> u32
     }
 }
 
-/// Whether an atom matches a packet. Most fields are of one byte, which is looked at by itself.
+/// Where a search goes on behind a test of one byte.
 #[inline(always)]
-fn passes(atom: &Atom, packet: &Packet<'_>) -> bool
-    requires { is_atom atom.now ≡ true }
-    ensures { result ≡ atom_matches atom.now packet.now }
+fn onward(atom: &Atom, inside: u32, other: u32, packet: &Packet<'_>) -> u32
+    requires { atom.now.width ≡ 1 }
+    ensures { result ≡ (if atom_matches atom.now packet.now then inside else other) }
 {
-    if atom.width == 1 {
-        match packet.bytes().get(usize::from(atom.offset)) {
-            Some(byte) => u32::from(*byte) & atom.mask == atom.value,
-            None => false,
-        }
-    } else {
-        atom.matches(packet)
+    match packet.bytes().get(usize::from(atom.offset)) {
+        Some(byte) if u32::from(*byte) & atom.mask == atom.value => inside,
+        _ => other,
     }
+}
+
+/// Where a search goes on that begins at a place, once it is past tests of one byte. Each field that is read of the
+/// packet is a step.
+#[inline(always)]
+fn past_bytes<L: StepLedger>(
+    nodes: &[Node],
+    start: u32,
+    packet: &Packet<'_>,
+    steps: &mut Steps<L>,
+) -> u32
+    requires nodes { AreNodes nodes.now }
+    requires within { start < length nodes.now }
+    ensures onward { (a : FilterAtom) (inside other : ℕ) → slice_index_or nodes.now start End ≡ Byte a inside other → result < start }
+    ensures found { (v : ℕ) → (way packet.now nodes.now result v).found ≡ (way packet.now nodes.now start v).found }
+    ensures steps { (v : ℕ) → steps.new + (way packet.now nodes.now result v).reads ≤ steps.old + (way packet.now nodes.now start v).reads }
+{
+    let mut place = start;
+    while let Node::Byte {
+        atom,
+        inside,
+        other,
+    } = &nodes[place as usize]
+    {
+        steps.tick();
+        place = onward(atom, *inside, *other, packet);
+    }
+    place
 }
 
 /// The lowest claim that a search finds for a packet which begins at a place. Each field that is read of the packet is a
@@ -61,12 +86,13 @@ pub(crate) fn walk<L: StepLedger>(
                 other,
             } => {
                 steps.tick();
-                if passes(atom, packet) {
+                if atom.matches(packet) {
                     place = *inside;
                 } else {
                     place = *other;
                 }
             }
+            Node::Byte { .. } => place = past_bytes(nodes, place, packet, steps),
             Node::Read {
                 offset,
                 width,

@@ -1,4 +1,4 @@
-use Rattle.std.proofs.Common.{◌≡◌, ℕ, ◌+◌, ◌<◌, List, ◌∷◌, [], true, not, ap, arith, sym, drop, filter, length, subst, ◌∙◌, refl, rules, Option}
+use Rattle.std.proofs.Common.{◌≡◌, ℕ, ◌+◌, ◌<◌, List, ◌∷◌, ◌++◌, [], true, not, ap, arith, sym, drop, filter, length, subst, ◌∙◌, refl, rules, Option}
 use Rattle.std.specs.List.{list_all}
 use Rattle.std.specs.Prelude.{◌==◌, nat_lt}
 use Rattle.std.proofs.lemmas.Bool.{and_parts}
@@ -161,7 +161,7 @@ lay_branch-returns-in-None-clause-laid t c =
     let depth = c.args.depth in
     let asked = subst (λ n. list_all (λ x. n == leaf_value depth x) leaves ≡ true) (sym c.requires.value) c.in-None.ensures.none in
     test_laid depth c.args.atom.now leaves c.args.next c.lay-inside.result _ c.args.nodes.now.items c.lay-inside.new.nodes.items c.push-place.new.nodes.items c.requires.next c.requires.atom c.requires.branch asked
-    c.lay-inside.ensures.laid c.push-place.ensures.place refl c.push-place.ensures.nodes
+    c.lay-inside.ensures.laid c.push-place.ensures.place refl (c.push-place.ensures.nodes ∙ ap (λ n. c.lay-inside.new.nodes.items ++ n ∷ []) c.test_node-node.ensures)
 
 pub lay_branch-returns-in-Some-clause-laid : goal.lay_branch-returns-in-Some-clause-laid
 lay_branch-returns-in-Some-clause-laid t c =

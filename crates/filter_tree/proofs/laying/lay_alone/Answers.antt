@@ -4,8 +4,7 @@ use Rattle.std.proofs.lemmas.List.{drop_more}
 use Rattle.filter_core.specs.declared.atom.Atom.{Atom}
 use Rattle.filter_core.specs.Filters.{is_filter}
 use Rattle.filter_tree.specs.ClaimBook.{ClaimValue}
-use Rattle.filter_tree.specs.declared.node.Node.TheVariants.{Test}
-use Rattle.filter_tree.specs.Laying.{IsLaid}
+use Rattle.filter_tree.specs.Laying.{IsLaid, test_node}
 use Rattle.filter_tree.proofs.Laid.{test_laid}
 use Rattle.filter_tree.proofs.Parting.{alone_branch, good_atom}
 use Rattle.filter_tree.proofs.laying.lay_alone.Goals as goal
@@ -28,6 +27,6 @@ loop-left-preserved c =
       within = λ _. omega (arith, within);
       laid = test_laid left a (leaf ∷ []) c.args.next c.loop-left.inside _ c.args.nodes.now.items c.loop-left.nodes.items c.push-place.new.nodes.items c.requires.next good alone.0 alone.1 laid
           c.push-place.ensures.place refl
-          (c.push-place.ensures.nodes ∙ ap (λ f. c.loop-left.nodes.items ++ Test (slice_index_or f left none) c.loop-left.inside.place c.args.next.place ∷ []) (c.atoms-atoms.ensures.atoms ∙ inside));
+          (c.push-place.ensures.nodes ∙ ap (λ n. c.loop-left.nodes.items ++ n ∷ []) c.test_node-node.ensures ∙ ap (λ f. c.loop-left.nodes.items ++ test_node (slice_index_or f left none) c.loop-left.inside.place c.args.next.place ∷ []) (c.atoms-atoms.ensures.atoms ∙ inside));
       room = omega (arith, c.push-place.ensures.room, c.loop-left.invariant.room);
     }

@@ -10,14 +10,14 @@ use Rattle.filter_tree.proofs.Reaching.{read_none, read_some}
 use Rattle.filter_tree.proofs.Ways.{is_node, way_at}
 use Rattle.filter_tree.proofs.walk.walk.Goals as goal
 
-pub loop-place-preserved-then-passes : goal.loop-place-preserved-then-passes
-loop-place-preserved-then-passes g c =
+pub loop-place-preserved-then-matches : goal.loop-place-preserved-then-matches
+loop-place-preserved-then-matches g c =
     let nodes = c.args.nodes.now in
     let packet = c.args.packet.now in
     let node = Test c.in-Test.atom c.in-Test.inside c.in-Test.other in
     let is = c.in-Test.is in
     let good = is_node nodes c.loop-place.place node c.requires.nodes c.loop-place.invariant.within is in
-    let test : atom_matches c.in-Test.atom packet ≡ true = sym c.passes.ensures ∙ c.if-passes.true in
+    let test : atom_matches c.in-Test.atom packet ≡ true = sym c.matches.ensures ∙ c.if-matches.true in
     let here = rw test at (way_at packet nodes c.loop-place.place c.loop-place.read node c.requires.nodes c.loop-place.invariant.within is) in
     record {
       within = omega (arith, good.1, c.loop-place.invariant.within);
@@ -25,19 +25,28 @@ loop-place-preserved-then-passes g c =
       steps = omega (arith, ap (λ (w : Way). w.reads) here, c.loop-place.invariant.steps, c.tick.ensures);
     }
 
-pub loop-place-preserved-else-passes : goal.loop-place-preserved-else-passes
-loop-place-preserved-else-passes g c =
+pub loop-place-preserved-else-matches : goal.loop-place-preserved-else-matches
+loop-place-preserved-else-matches g c =
     let nodes = c.args.nodes.now in
     let packet = c.args.packet.now in
     let node = Test c.in-Test.atom c.in-Test.inside c.in-Test.other in
     let is = c.in-Test.is in
     let good = is_node nodes c.loop-place.place node c.requires.nodes c.loop-place.invariant.within is in
-    let test : atom_matches c.in-Test.atom packet ≡ false = sym c.passes.ensures ∙ c.if-passes.false in
+    let test : atom_matches c.in-Test.atom packet ≡ false = sym c.matches.ensures ∙ c.if-matches.false in
     let here = rw test at (way_at packet nodes c.loop-place.place c.loop-place.read node c.requires.nodes c.loop-place.invariant.within is) in
     record {
       within = omega (arith, good.2, c.loop-place.invariant.within);
       answer = ap (λ (w : Way). lower_number c.loop-place.found w.found) (sym here) ∙ c.loop-place.invariant.answer;
       steps = omega (arith, ap (λ (w : Way). w.reads) here, c.loop-place.invariant.steps, c.tick.ensures);
+    }
+
+pub loop-place-preserved-in-Byte : goal.loop-place-preserved-in-Byte
+loop-place-preserved-in-Byte g c =
+    let behind = c.past_bytes-place.ensures in
+    record {
+      within = omega (arith, behind.onward c.in-Byte.atom c.in-Byte.inside c.in-Byte.other c.in-Byte.is, c.loop-place.invariant.within);
+      answer = ap (lower_number c.loop-place.found) (behind.found c.loop-place.read) ∙ c.loop-place.invariant.answer;
+      steps = omega (arith, behind.steps c.loop-place.read, c.loop-place.invariant.steps);
     }
 
 pub loop-place-preserved-then-read-bound : goal.loop-place-preserved-then-read-bound
