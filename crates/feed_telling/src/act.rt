@@ -1,5 +1,5 @@
 //! What the runner's next step does to the world.
-ghost use Rattle.std.specs.Prelude.{◌≡◌, ◌≤◌};
+ghost use Rattle.std.specs.Prelude.{◌≡◌};
 ghost use Rattle.mips_exec.specs.Access.{low_bytes};
 
 use std::marker::Model;
@@ -22,14 +22,13 @@ impl Model for Stored {
 }
 
 impl Stored {
-    /// The low bytes of a value, so many, the lowest first.
+    /// The low bytes of a value, so many, the lowest first; it has four.
     pub fn low(width: u8, value: u32) -> Stored
-        requires { width ≤ 4 }
         ensures { result ≡ low_bytes width value }
     {
         Stored {
             bytes: value.to_le_bytes(),
-            width,
+            width: width.min(4),
         }
     }
 
