@@ -45,7 +45,7 @@ impl Board {
     ghost use Rattle.board_model.specs.Sound.{IsSoundBoard};
 
     /// Law: a board is sound. What reads no part of it knows that by this alone.
-    pub(crate) fn law_sound(&self)
+    pub fn law_sound(&self)
         ensures { IsSoundBoard self.now }
     {
         let _ = &self.time;

@@ -9,11 +9,11 @@ use kernel_journal::Row;
 use revocation_book::{Taking, Takings, law_few_takings, law_takable};
 
 impl Board {
-    ghost use Rattle.board_model.specs.Doing.{after_deadlines, after_taking};
+    ghost use Rattle.board_model.specs.Doing.{after_deadlines, after_taking, with_deadlines_over};
 
     /// A page is taken by force: the backup gets a copy and is an ordinary page again, its owner finds the record, and the
     /// page is nobody's.
-    fn take(&mut self, taking: Taking)
+    pub(crate) fn take(&mut self, taking: Taking)
         requires may { IsTakable (books_of self.old.pages self.old.revocations) self.old.time taking }
         requires room { 0 < self.old.ledger.spare }
         ensures { self.new ≡ after_taking self.old taking }
@@ -62,6 +62,13 @@ impl Board {
             .revocations
             .takings(&self.pages, envs, self.time.ticks());
         self.take_all(&takings);
+        self.revocations.served(self.time.ticks());
+    }
+
+    /// The deadlines that have come are over.
+    pub(crate) fn settle_deadlines(&mut self)
+        ensures { self.new ≡ with_deadlines_over self.old }
+    {
         self.revocations.served(self.time.ticks());
     }
 

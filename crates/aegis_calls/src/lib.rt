@@ -1,7 +1,7 @@
 //! The board: the machine, the environments on it and the kernel's books, and the parts of a tick.
 //! What a board shows is a world of the model, and each part of a tick is that part of the model's.
 //!
-//! The methods in `phases`, `boot`, `readers` and `views` are for the layers above and for verdicts, and speak of that
+//! The methods in `phases`, `serving`, `boot`, `readers` and `views` are for the layers above and for verdicts, and speak of that
 //! world; those in the other files change the board's parts, each by one equation.
 #![tactic(auto)]
 
@@ -19,6 +19,7 @@ mod own_deeds;
 mod page_deeds;
 mod phases;
 mod readers;
+mod serving;
 mod slot_deeds;
 mod stretch;
 mod timer;

@@ -10,11 +10,13 @@ use aegis_limits::OutOfMemory;
 use bind_book::{Binding, Bindings};
 use board_acts::{is_owned, page_behind};
 use env_frames::Env;
+use filter_tree::Claims;
 use frame_store::Frames;
 use kernel_journal::Row;
 use mips_exec::Cpu;
 use page_book::Pages;
 use r3k_tlb::Tlb;
+use revocation_book::Revocations;
 use slot_vector::Slots;
 use tlb_model::Fills;
 use world_model::{Life, PageView, WorldView};
@@ -41,6 +43,20 @@ impl Board {
         ensures { result.now ≡ self.now.binds }
     {
         &self.bindings
+    }
+
+    /// The book of claims.
+    pub fn claims(&self) -> &Claims
+        ensures { result.now ≡ self.now.claims }
+    {
+        &self.claims
+    }
+
+    /// The book of revocations.
+    pub fn revocations(&self) -> &Revocations
+        ensures { result.now ≡ self.now.revocations }
+    {
+        &self.revocations
     }
 
     /// The vector of slots.

@@ -264,7 +264,7 @@ all_taken b (x ∷ xs) sound may =
     (rest.0 ∙ ap (λ w. run_phases w (map takes xs)) (taken_world b sound x may.0), rest.1)
 
 -- the deadlines are over
-over_world : (b : Shown) → world_of (with_deadlines_over b) ≡ after (world_of b) (settles (world_of b))
+pub over_world : (b : Shown) → world_of (with_deadlines_over b) ≡ after (world_of b) (settles (world_of b))
 over_world b = search (rules, pending_served, like_solo, append-nil)
 
 run_last : (w : World) (xs : List (World → Reply)) (phase : World → Reply) → run_phases w (xs ++ phase ∷ []) ≡ (let v = run_phases w xs in after v (phase v))

@@ -1,5 +1,5 @@
 //! The laws of what a board shows: each part of a tick is that part of the model's.
-ghost use Rattle.board_model.specs.Laws.{AgainShowsModel, CallShowsModel, DeathShowsModel, EventShowsModel, IdleShowsModel, RefusalShowsModel, ServingShowsModel, StepShowsModel, TimerShowsModel, TurnShowsModel};
+ghost use Rattle.board_model.specs.Laws.{AgainShowsModel, CallShowsModel, DeadlinesEndAsModel, DeathShowsModel, EventShowsModel, IdleShowsModel, RefusalShowsModel, ServingShowsModel, StepShowsModel, TakingShowsModel, TimerShowsModel, TurnShowsModel};
 ghost use Rattle.board_model.specs.Stretch.{StretchIsSteady, StretchShowsModel};
 
 use call_verdicts::{law_again, law_granted};
@@ -24,6 +24,12 @@ pub fn law_serving()
 {
     law_takable();
 }
+
+/// A page that is taken from a sound board is taken as the model says, and deadlines that have come end as it says.
+pub fn law_taking()
+    ensures taken { TakingShowsModel }
+    ensures over { DeadlinesEndAsModel }
+{}
 
 /// The turn of a sound board is the model's.
 pub fn law_turn()
