@@ -1,10 +1,11 @@
 -- Items that stand in a row, of which the first are read.
-use Rattle.std.proofs.Common.{◌≡◌, ◌<◌, ◌≤◌, ◌+◌, ◌-◌, ℕ, zero, suc, List, [], ◌∷◌, ◌++◌, length, drop, slice_index_or, slice_set, true, sym, ◌∙◌, ap, arith}
-use Rattle.std.specs.List.{flat_map}
+use Rattle.std.proofs.Common.{◌≡◌, ◌<◌, ◌≤◌, ◌+◌, ◌-◌, ℕ, zero, suc, List, [], ◌∷◌, ◌++◌, length, take, drop, replicate, slice_index_or, slice_set, Bool, true, false, refl, sym, ◌∙◌, ap, arith}
+use Rattle.std.specs.Prelude.{◌||◌}
+use Rattle.std.specs.List.{flat_map, list_any}
 use Rattle.std.proofs.Math.ListN.{drop_of_length-le}
-use Rattle.std.proofs.lemmas.List.{drop-append-le, drop-drop, drop-replicate, length-replicate}
+use Rattle.std.proofs.lemmas.List.{append_assoc, drop-append-le, drop-drop, drop-replicate, length-replicate, take-append-drop}
 use Rattle.item_views.specs.Views.{ItemSeen}
-use Rattle.feed_log.specs.Log.{Run, is_empty, run_items}
+use Rattle.feed_log.specs.Log.{Run, StandsFirst, begins_seen, is_empty, run_items}
 
 -- a run of which the first are read
 fewer : (most : ℕ) (r : Run) (items : List Run) → most < r.times
@@ -31,3 +32,41 @@ none_behind items [] i j within is none =
     let whole : i + (j - i) ≡ j = omega (arith, within) in
     sym (drop_of_length-le {A = ItemSeen} [] {i = j - i} (omega arith)) ∙ ap (λ (xs : List ItemSeen). drop (j - i) xs) is ∙ drop-drop (j - i) i items ∙ ap (λ (k : ℕ). drop k items) whole
 none_behind items (x ∷ left) i j within is none = absurd (cc)
+
+-- Of items the first stand in a row and are read, and the others are behind them.
+or_twice : (a b : Bool) → a || (a || b) ≡ a || b
+or_twice true b = refl
+or_twice false b = refl
+
+or_assoc : (a b c : Bool) → a || (b || c) ≡ (a || b) || c
+or_assoc true b c = refl
+or_assoc false b c = refl
+
+any_row : (test : ItemSeen → Bool) (n : ℕ) (item : ItemSeen) (rest : List ItemSeen)
+    → list_any test (replicate (suc n) item ++ rest) ≡ test item || list_any test rest
+any_row test zero item rest = refl
+any_row test (suc n) item rest =
+    ap (λ (b : Bool). test item || b) (any_row test n item rest) ∙ or_twice (test item) (list_any test rest)
+
+any_first : (n : ℕ) (item : ItemSeen) (rest : List ItemSeen) → 0 < n
+    → list_any begins_seen (replicate n item ++ rest) ≡ begins_seen item || list_any begins_seen rest
+any_first zero item rest some = absurd (omega (arith, some))
+any_first (suc n) item rest some = any_row begins_seen n item rest
+
+parted : (items : List ItemSeen) (item : ItemSeen) (times : ℕ) → StandsFirst items item times
+    → items ≡ replicate times item ++ drop times items
+parted items item times first =
+    sym (take-append-drop times items) ∙ ap (λ (xs : List ItemSeen). xs ++ drop times items) first.row
+
+pub received : (log other : List ItemSeen) (item : ItemSeen) (times : ℕ) → StandsFirst other item times
+    → (log ++ replicate times item) ++ drop times other ≡ log ++ other
+received log other item times first =
+    append_assoc log (replicate times item) (drop times other)
+    ∙ ap (λ (xs : List ItemSeen). log ++ xs) (sym (parted other item times first))
+
+pub begun : (begins : Bool) (other : List ItemSeen) (item : ItemSeen) (times : ℕ) → StandsFirst other item times
+    → begins || list_any begins_seen other ≡ (begins || begins_seen item) || list_any begins_seen (drop times other)
+begun begins other item times first =
+    ap (λ (b : Bool). begins || b)
+    (ap (list_any begins_seen) (parted other item times first) ∙ any_first times item (drop times other) first.some)
+    ∙ or_assoc begins (begins_seen item) (list_any begins_seen (drop times other))

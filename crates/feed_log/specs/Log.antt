@@ -1,5 +1,7 @@
 -- Items that aren't read yet.
 use Rattle.std.specs.Prelude.{◌≡◌, ◌<◌, ℕ, List, [], ◌∷◌, ◌++◌, map, take, replicate, Bool, true, false}
+use Rattle.item_views.specs.declared.view.ItemKind.{ItemKind}
+use Rattle.item_views.specs.declared.view.ItemKind.TheVariants as kind
 use Rattle.item_views.specs.declared.view.ItemView.{ItemView}
 use Rattle.item_views.specs.Views.{ItemSeen, item_seen, view_of}
 use Rattle.world_model.specs.Item.{Item}
@@ -19,6 +21,15 @@ shown v = view_of v.kind v.a v.b v.bytes.now
 abbrev pub is_empty : List ItemSeen → Bool
 is_empty [] = true
 is_empty (item ∷ items) = false
+
+-- whether a slice begins with an item
+abbrev pub begins_kind : ItemKind → Bool
+begins_kind kind.Start = true
+begins_kind kind.Transfer = true
+begins_kind other = false
+
+abbrev pub begins_seen : ItemSeen → Bool
+begins_seen item = begins_kind item.kind
 
 -- a log behind which these items were told
 abbrev pub with_items : List ItemSeen → List Item → List ItemSeen

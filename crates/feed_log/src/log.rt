@@ -1,14 +1,22 @@
 //! The log of an environment.
-ghost use Rattle.std.specs.Prelude.{◌≡◌, ◌++◌, [], ◌∷◌, drop, replicate, true, ◌==◌, ◌<◌, ◌≤◌, false, MatchOption, OnOk, OnErr};
+ghost use Rattle.std.specs.Prelude.{◌≡◌, ◌++◌, [], ◌∷◌, drop, replicate, true, ◌==◌, ◌<◌, ◌≤◌, false, IfOk, MatchOption, OnOk, OnErr};
+ghost use Rattle.std.specs.List.{list_any};
 ghost use Rattle.item_views.specs.Views.{item_seen};
 ghost use Rattle.world_model.specs.Item.{Step};
-ghost use Rattle.feed_log.specs.Log.{StandsFirst, is_empty, shown};
+ghost use Rattle.feed_log.specs.Log.{StandsFirst, begins_kind, begins_seen, is_empty, shown};
 
 use crate::entry::Entry;
 use aegis_limits::OutOfMemory;
 use item_views::{ItemKind, ItemView};
 use std::alloc::Global;
 use std::marker::Model;
+
+/// Whether a slice begins with items of this kind.
+fn begins_slice(kind: ItemKind) -> bool
+    ensures { result ≡ begins_kind kind }
+{
+    matches!(kind, ItemKind::Start | ItemKind::Transfer)
+}
 
 /// The items of an environment that nobody has read yet, in their order.
 #[derive(Drop)]
@@ -86,6 +94,20 @@ impl FeedLog {
     {
         let entry = self.entries.get(self.unread)?;
         Some((entry.item(), entry.times()))
+    }
+
+    /// All items of another log are read there and told here. The answer is whether a slice begins with one of them.
+    pub fn receive(&mut self, other: &mut FeedLog) -> Result<bool, OutOfMemory>
+        ensures log { OnOk result (self.new ≡ self.old ++ other.old) }
+        ensures begins { IfOk result (λ begins. begins ≡ list_any begins_seen other.old) }
+    {
+        let mut begins = false;
+        while let Some((item, times)) = other.first() {
+            begins |= begins_slice(item.kind);
+            self.append(&item, times)?;
+            other.skip(times);
+        }
+        Ok(begins)
     }
 
     /// Of the first items some are read, at most so many: how many.

@@ -1,2 +1,3 @@
 pub mod Tell
 pub mod Turning
+pub mod Arriving

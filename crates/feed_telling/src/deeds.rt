@@ -1,5 +1,5 @@
 //! What a call of the runner's gives.
-ghost use Rattle.std.specs.Prelude.{◌≡◌, [], ◌∷◌, OnOk, Some};
+ghost use Rattle.std.specs.Prelude.{◌≡◌, ◌<◌, ◌^◌, [], ◌∷◌, OnOk, Some};
 ghost use Rattle.world_model.specs.Book.{running};
 ghost use Rattle.world_model.specs.Call.{called};
 ghost use Rattle.world_model.specs.Event.{revokes};
@@ -149,7 +149,8 @@ pub(crate) fn tell_call<V: FeedView>(
     watched: u8,
     runner: u8,
 ) -> Result<(), OutOfMemory>
-    requires { running (V.world view.now).book.runner ≡ Some runner }
+    requires runs { running (V.world view.now).book.runner ≡ Some runner }
+    requires numbers { (V.world view.now).book.next_claim < 2 ^ 32 }
     ensures { OnOk result (AreTold log.old log.new ((reply_to (V.world view.now) runner (called ((V.world view.now).solos runner).cpu)).items watched)) }
 {
     let call = Call::named(view.runner_registers(runner).reg(CALL_NUMBER));

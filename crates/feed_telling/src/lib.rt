@@ -4,6 +4,7 @@
 
 mod act;
 mod deeds;
+mod events;
 mod items;
 mod losses;
 mod step;
@@ -13,7 +14,8 @@ mod transfer;
 mod view;
 
 pub use act::{NextAct, Stored};
+pub use events::tell_event;
 pub use step::tell_step;
 pub use taking::tell_taking;
 pub use timer::{law_turn, tell_timer, tell_turn};
-pub use view::FeedView;
+pub use view::{Arrival, FeedView};

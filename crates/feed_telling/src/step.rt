@@ -1,5 +1,5 @@
 //! What the runner's step gives, with its call, its store or its death.
-ghost use Rattle.std.specs.Prelude.{◌≡◌, [], ◌∷◌, OnOk, Some};
+ghost use Rattle.std.specs.Prelude.{◌≡◌, ◌<◌, ◌^◌, [], ◌∷◌, OnOk, Some};
 ghost use Rattle.world_model.specs.Book.{running};
 ghost use Rattle.world_model.specs.Item.{Step};
 ghost use Rattle.world_model.specs.World.{only};
@@ -21,7 +21,8 @@ fn tell_act<V: FeedView>(
     watched: u8,
     runner: u8,
 ) -> Result<(), OutOfMemory>
-    requires { running (V.world view.now).book.runner ≡ Some runner }
+    requires runs { running (V.world view.now).book.runner ≡ Some runner }
+    requires numbers { (V.world view.now).book.next_claim < 2 ^ 32 }
     ensures { OnOk result (AreTold log.old log.new ((act_reply runner (act_now (V.world view.now) runner) (V.world view.now)).items watched)) }
 {
     match view.next_act(runner) {
@@ -54,7 +55,8 @@ pub fn tell_step<V: FeedView>(
     watched: u8,
     runner: u8,
 ) -> Result<(), OutOfMemory>
-    requires { running (V.world view.now).book.runner ≡ Some runner }
+    requires runs { running (V.world view.now).book.runner ≡ Some runner }
+    requires numbers { (V.world view.now).book.next_claim < 2 ^ 32 }
     ensures { OnOk result (AreTold log.old log.new ((step_phase (V.world view.now)).items watched)) }
 {
     tell_own_step(log, watched, runner)?;

@@ -1,19 +1,33 @@
 //! What is read of a world to tell the items of its next phase.
 ghost use Rattle.std.specs.Prelude.{◌≡◌, ◌<◌, ◌≤◌, ◌^◌, Some};
 ghost use Rattle.aegis_limits.specs.Limits.{most_quantum, most_ticks};
+ghost use Rattle.std.specs.Option.{option_map};
+ghost use Rattle.external_event.specs.Limits.{lines};
 ghost use Rattle.bind_book.specs.Stripe.{is_bound};
+ghost use Rattle.world_model.specs.ClaimCalls.{claim_of};
 ghost use Rattle.page_book.specs.Row.{belongs_to};
 ghost use Rattle.world_model.specs.Book.{running, sees};
 ghost use Rattle.world_model.specs.PageCalls.{page_bytes};
 ghost use Rattle.world_model.specs.Tick.{act_now};
 ghost use Rattle.world_model.specs.Verdict.{verdict};
 ghost use Rattle.world_model.specs.World.{World, is_living};
+ghost use Rattle.feed_telling.specs.Arriving.{arrival_by, page_left_by};
 ghost use Rattle.feed_telling.specs.Tell.{act_shown, timer_when};
 
 use crate::act::NextAct;
+use aegis_limits::PAGE_SIZE;
+use external_event::PacketBytes;
 use mips_exec::Cpu;
 use revocation_book::Pending;
 use world_model::{Call, Timer, Verdict};
+
+/// Where a packet goes: to which claim, of which environment, and into which page.
+#[derive(Clone, Copy)]
+pub struct Arrival {
+    pub env: u8,
+    pub claim: u32,
+    pub page: u32,
+}
 
 /// What shows a world of the model to whoever tells the items of its next phase. Environments and pages are named by
 /// number.
@@ -33,7 +47,8 @@ pub trait FeedView {
 
     /// The verdict on a call of the runner's.
     fn verdict(&self, runner: u8, call: Option<Call>) -> Verdict
-        requires { running (world self.now).book.runner ≡ Some runner }
+        requires runs { running (world self.now).book.runner ≡ Some runner }
+        requires numbers { (world self.now).book.next_claim < 2 ^ 32 }
         ensures { result ≡ verdict (world self.now) runner call };
 
     /// What the timer answers after the runner's tick.
@@ -67,6 +82,19 @@ pub trait FeedView {
     /// The bytes of a page that somebody owns; of another there are none.
     fn page_bytes(&self, page: u32) -> &[u8]
         ensures { result.now ≡ page_bytes (world self.now) page };
+
+    /// The claim to which a packet goes, if anybody claims it.
+    fn arrival(&self, packet: &PacketBytes) -> Option<Arrival>
+        ensures { result ≡ option_map arrival_by (claim_of (world self.now).book packet.now) };
+
+    /// All bytes of the ring page behind a packet; none where nobody claims it, or it is lost.
+    fn page_left(&self, packet: &PacketBytes) -> Option<[u8; PAGE_SIZE]>
+        ensures { result ≡ page_left_by (world self.now) packet.now };
+
+    /// Whose an interrupt line is, if anybody's.
+    fn line_owner(&self, line: u8) -> Option<u8>
+        requires { line < lines }
+        ensures { result ≡ (world self.now).book.lines line };
 
     /// The ticks of a quantum.
     fn quantum(&self) -> u32
