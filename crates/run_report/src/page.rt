@@ -10,10 +10,10 @@ use sha2::{Digest, Sha256};
 use world_model::{PageView, WorldView};
 
 /// The characters of a fingerprint: two for each byte of a digest.
-const FINGERPRINT_SIZE: usize = 64;
+pub const FINGERPRINT_SIZE: usize = 64;
 
 /// The fingerprint of bytes: their SHA-256 in hexadecimal digits.
-pub(crate) fn fingerprint(bytes: &[u8]) -> [u8; FINGERPRINT_SIZE]
+pub fn fingerprint(bytes: &[u8]) -> [u8; FINGERPRINT_SIZE]
     ensures { result ≡ fingerprint bytes.now }
 {
     let digest = Sha256::digest(bytes);
