@@ -1,0 +1,5 @@
+pub mod ItemText
+pub mod Answer
+pub mod Text
+pub mod Course
+pub mod Law
