@@ -14,8 +14,8 @@ mod sent;
 pub use clock::Clock;
 pub use console::Console;
 pub use laws::{
-    law_again_answered, law_call, law_death, law_happen, law_idle, law_refusal, law_serving, law_taking,
-    law_step, law_stretch, law_timer, law_turn,
+    law_again_answered, law_call, law_death, law_happen, law_idle, law_refusal, law_serving,
+    law_step, law_stretch, law_taking, law_timer, law_turn,
 };
 pub use lines::Lines;
 pub use output::Output;
