@@ -1,5 +1,6 @@
 //! What a call of the runner's gives.
-ghost use Rattle.std.specs.Prelude.{◌≡◌, ◌<◌, ◌^◌, [], ◌∷◌, OnOk, Some};
+ghost use Rattle.std.specs.Prelude.{◌≡◌, ◌<◌, ◌≤◌, ◌^◌, [], ◌∷◌, OnOk, Some};
+ghost use Rattle.aegis_limits.specs.Limits.{most_ticks};
 ghost use Rattle.world_model.specs.Book.{running};
 ghost use Rattle.world_model.specs.Call.{called};
 ghost use Rattle.world_model.specs.Event.{revokes};
@@ -96,9 +97,10 @@ fn tell_one_asked<V: FeedView>(
     watched: u8,
     who: u8,
 ) -> Result<(), OutOfMemory>
+    requires time { (V.world view.now).book.time ≤ most_ticks }
     ensures { OnOk result (AreTold log.old log.new ((asks_one who (V.world view.now)).items watched)) }
 {
-    if view.pending(who).is_some() {
+    if watched != who || !view.is_living(who) || view.pending(who).is_some() {
         return Ok(());
     }
     let deadline = view.time() + 2 * view.quantum();
@@ -113,7 +115,8 @@ fn tell_behind_answer<V: FeedView>(
     runner: u8,
     verdict: Verdict,
 ) -> Result<(), OutOfMemory>
-    requires { running (V.world view.now).book.runner ≡ Some runner }
+    requires runs { running (V.world view.now).book.runner ≡ Some runner }
+    requires time { (V.world view.now).book.time ≤ most_ticks }
     ensures { OnOk result (AreTold log.old log.new ((behind_answer (V.world view.now) runner verdict).items watched)) }
 {
     match verdict {
@@ -151,6 +154,7 @@ pub(crate) fn tell_call<V: FeedView>(
 ) -> Result<(), OutOfMemory>
     requires runs { running (V.world view.now).book.runner ≡ Some runner }
     requires numbers { (V.world view.now).book.next_claim < 2 ^ 32 }
+    requires time { (V.world view.now).book.time ≤ most_ticks }
     ensures { OnOk result (AreTold log.old log.new ((reply_to (V.world view.now) runner (called ((V.world view.now).solos runner).cpu)).items watched)) }
 {
     let call = Call::named(view.runner_registers(runner).reg(CALL_NUMBER));

@@ -1,5 +1,6 @@
 //! What is given by what happens from outside.
-ghost use Rattle.std.specs.Prelude.{◌≡◌, OnOk, true};
+ghost use Rattle.std.specs.Prelude.{◌≡◌, ◌≤◌, OnOk, true};
+ghost use Rattle.aegis_limits.specs.Limits.{most_ticks};
 ghost use Rattle.external_event.specs.EventValue.{is_occurrence};
 ghost use Rattle.world_model.specs.ClaimCalls.{claim_of};
 ghost use Rattle.world_model.specs.Event.{arrives, happen as event_phase};
@@ -42,7 +43,8 @@ pub fn tell_event<V: FeedView>(
     watched: u8,
     what: &Occurrence,
 ) -> Result<(), OutOfMemory>
-    requires { is_occurrence what.now ≡ true }
+    requires event { is_occurrence what.now ≡ true }
+    requires time { (V.world view.now).book.time ≤ most_ticks }
     ensures { OnOk result (AreTold log.old log.new ((event_phase what.now (V.world view.now)).items watched)) }
 {
     match what {

@@ -1,5 +1,6 @@
 //! What the runner's step gives, with its call, its store or its death.
-ghost use Rattle.std.specs.Prelude.{◌≡◌, ◌<◌, ◌^◌, [], ◌∷◌, OnOk, Some};
+ghost use Rattle.std.specs.Prelude.{◌≡◌, ◌<◌, ◌≤◌, ◌^◌, [], ◌∷◌, OnOk, Some};
+ghost use Rattle.aegis_limits.specs.Limits.{most_ticks};
 ghost use Rattle.world_model.specs.Book.{running};
 ghost use Rattle.world_model.specs.Item.{Step};
 ghost use Rattle.world_model.specs.World.{only};
@@ -23,6 +24,7 @@ fn tell_act<V: FeedView>(
 ) -> Result<(), OutOfMemory>
     requires runs { running (V.world view.now).book.runner ≡ Some runner }
     requires numbers { (V.world view.now).book.next_claim < 2 ^ 32 }
+    requires time { (V.world view.now).book.time ≤ most_ticks }
     ensures { OnOk result (AreTold log.old log.new ((act_reply runner (act_now (V.world view.now) runner) (V.world view.now)).items watched)) }
 {
     match view.next_act(runner) {
@@ -57,6 +59,7 @@ pub fn tell_step<V: FeedView>(
 ) -> Result<(), OutOfMemory>
     requires runs { running (V.world view.now).book.runner ≡ Some runner }
     requires numbers { (V.world view.now).book.next_claim < 2 ^ 32 }
+    requires time { (V.world view.now).book.time ≤ most_ticks }
     ensures { OnOk result (AreTold log.old log.new ((step_phase (V.world view.now)).items watched)) }
 {
     tell_own_step(log, watched, runner)?;

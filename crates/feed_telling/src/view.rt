@@ -1,5 +1,5 @@
 //! What is read of a world to tell the items of its next phase.
-ghost use Rattle.std.specs.Prelude.{◌≡◌, ◌<◌, ◌≤◌, ◌^◌, Some};
+ghost use Rattle.std.specs.Prelude.{◌≡◌, ◌<◌, ◌≤◌, ◌^◌, Some, true};
 ghost use Rattle.aegis_limits.specs.Limits.{most_quantum, most_ticks};
 ghost use Rattle.std.specs.Option.{option_map};
 ghost use Rattle.external_event.specs.Limits.{lines};
@@ -59,8 +59,9 @@ pub trait FeedView {
     fn is_living(&self, env: u8) -> bool
         ensures { result ≡ is_living (world self.now) env };
 
-    /// What an environment is asked for and hasn't given back.
+    /// What an environment that lives is asked for and hasn't given back.
     fn pending(&self, env: u8) -> Option<Pending>
+        requires { is_living (world self.now) env ≡ true }
         ensures { result ≡ (world self.now).book.pending env };
 
     /// How many pages there are.
@@ -103,6 +104,7 @@ pub trait FeedView {
 
     /// Ticks since the boot.
     fn time(&self) -> u32
+        requires { (world self.now).book.time ≤ most_ticks }
         ensures time { result ≡ (world self.now).book.time }
         ensures most { result ≤ most_ticks };
 }
