@@ -1,4 +1,4 @@
-pub mod Whole
+mod Whole
 mod Cached
 mod Coming
 mod Happening

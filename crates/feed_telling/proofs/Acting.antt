@@ -26,53 +26,6 @@ use Rattle.world_model.specs.World.{World, only, tells, after, in_turn}
 use Rattle.feed_telling.specs.declared.act.NextAct.TheVariants as next
 use Rattle.feed_telling.specs.Tell.{act_shown, behind_answer, store_at, store_shown}
 
--- an act that changes the runner alone gives nothing
-left_kept : (w : World) (r i : ℕ) (x : Store) (key : Key) → store_shown x key ≡ next.Aside → left_at w.book r x key i ≡ []
-left_kept w r i x (Kept vpn) shown = refl
-left_kept w r i x (Physical page) shown = absurd (cc)
-
-pub aside : (w : World) (r i : ℕ) (act : Act) → act_shown act ≡ next.Aside → (act_reply r act w).items i ≡ []
-aside w r i Nothing shown = refl
-aside w r i (Stores x) shown = left_kept w r i x x.key shown
-aside w r i (Calls call) shown = absurd (cc)
-aside w r i (Raises exc) shown = refl
-aside w r i (Dies cause) shown = absurd (cc)
-
--- a store is left as it is shown
-same_left : (here : Bool) (page : ℕ) (x y : Store) → x.offset ≡ y.offset → x.bytes ≡ y.bytes → left_if here page x ≡ left_if here page y
-same_left true page x y offset bytes = λ k. Left page (offset k) (bytes k) ∷ []
-same_left false page x y offset bytes = refl
-
-left_physical : (w : World) (r i : ℕ) (x : Store) (key : Key) (page offset : ℕ) (bytes : List ℕ) → store_shown x key ≡ next.Stores page offset bytes
-    → left_at w.book r x key i ≡ left_at w.book r (store_at page offset bytes) (Physical page) i
-left_physical w r i x (Kept vpn) page offset bytes shown = absurd (cc)
-left_physical w r i x (Physical p) page offset bytes shown =
-    let same_page : p ≡ page = cc in
-    let same_offset : x.offset ≡ offset = cc in
-    let same_bytes : x.bytes ≡ bytes = cc in
-    ap (λ (q : ℕ). left_at w.book r x (Physical q) i) same_page
-    ∙ ap (λ (items : List Item). if i == r then [] else items)
-    (same_left (sees w.book i page) page x (store_at page offset bytes) same_offset same_bytes)
-
-pub stored : (w : World) (r i : ℕ) (act : Act) (page offset : ℕ) (bytes : List ℕ) → act_shown act ≡ next.Stores page offset bytes
-    → (act_reply r act w).items i ≡ left_at w.book r (store_at page offset bytes) (Physical page) i
-stored w r i Nothing page offset bytes shown = absurd (cc)
-stored w r i (Stores x) page offset bytes shown = left_physical w r i x x.key page offset bytes shown
-stored w r i (Calls call) page offset bytes shown = absurd (cc)
-stored w r i (Raises exc) page offset bytes shown = absurd (cc)
-stored w r i (Dies cause) page offset bytes shown = absurd (cc)
-
--- a death is shown as one
-pub dead_items : (w : World) (r i : ℕ) (act : Act) → act_shown act ≡ next.Dies → (act_reply r act w).items i ≡ death_items w.book r i
-dead_items w r i Nothing shown = absurd (cc)
-dead_items w r i (Stores x) shown = absurd (not_dead x x.key shown) where
-  not_dead : (x : Store) (key : Key) → store_shown x key ≡ next.Dies → ⊥
-  not_dead x (Kept vpn) shown = cc
-  not_dead x (Physical page) shown = cc
-dead_items w r i (Calls call) shown = absurd (cc)
-dead_items w r i (Raises exc) shown = absurd (cc)
-dead_items w r i (Dies cause) shown = refl
-
 -- a call is the one that its caller's registers name
 trapped_call : (handled : Bool) (cause : Cause) (exc : Exc) → act_shown (if handled then Dies cause else Raises exc) ≡ next.Calls → ⊥
 trapped_call true cause exc shown = cc
@@ -94,10 +47,6 @@ call_of : (s : Solo) (m : MachineStep) → act_shown (act_of s m) ≡ next.Calls
 call_of s (Retired new write) shown = absurd (retired_call (store_of s write) shown)
 call_of s Called shown = (named_call s.cpu (reg s.cpu 2 == exit_number) shown, refl)
 call_of s (Trapped exc) shown = absurd (trapped_call (s.handlers.exception == 0) (cause.Trapped exc.code) exc shown)
-
-pub calling : (w : World) (r i : ℕ) → act_shown (act_now w r) ≡ next.Calls
-    → (act_reply r (act_now w r) w).items i ≡ (reply_to w r (called (w.solos r).cpu)).items i
-calling w r i shown = ap (λ (act : Act). (act_reply r act w).items i) (call_of (w.solos r) (step_alone (w.solos r)) shown).0
 
 -- the answer, and what comes behind it
 pub answered : (w : World) (r i : ℕ) (v : Verdict)

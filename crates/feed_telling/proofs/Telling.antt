@@ -6,10 +6,6 @@ use Rattle.item_views.specs.Views.{AreWords, ItemSeen, item_seen}
 use Rattle.world_model.specs.Item.{Item}
 use Rattle.feed_telling.specs.Tell.{AreFit, AreTold}
 
--- nothing is told
-pub told_none : (log : List ItemSeen) → AreTold log log []
-told_none log = record { log = sym (append-nil log); fit = tt }
-
 both_fit : (xs ys : List Item) → AreFit xs → AreFit ys → AreFit (xs ++ ys)
 both_fit [] ys first second = second
 both_fit (x ∷ xs) ys first second = (first.0, both_fit xs ys first.1 second)

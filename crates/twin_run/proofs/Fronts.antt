@@ -10,7 +10,7 @@ use Rattle.run_model.specs.Slices.{IsEndOf}
 use Rattle.item_views.specs.Views.{item_seen}
 use Rattle.told_run.specs.Progress.{Progress, ended, told, unread}
 use Rattle.twin_run.specs.declared.difference.Difference.{Difference}
-use Rattle.twin_run.specs.Answer.{text_of}
+use Rattle.twin_run.specs.Answer.{item_or_none}
 use Rattle.twin_run.specs.Course.{AreEnds, AreNextSame, AreSameBelow, Begins, CameApart, CameToItem, HasNext, IsDifference, IsDone, IsUnderWay, Reads, difference_at, difference_of, front, items_within, settled}
 use Rattle.twin_run.specs.ItemText.{is_alike}
 use Rattle.twin_run.specs.Law.{IsSameWhereEqual}
@@ -114,17 +114,6 @@ reads_more n start index count p q reads skips = record {
   under_way = subst (IsUnderWay n) (sym skips) (record { within = reads.under_way.within; fewer = reads.under_way.fewer });
 }
 
--- a run that begins
-pub reads_none : (n : ℕ) (e : ℕ) (p : Progress) → Begins e p → Reads n p 0 p
-reads_none n e p begins =
-    let none : p.ticks ≡ 0 = ap (λ (r : Progress). r.ticks) begins in
-    record {
-      system = refl;
-      env = refl;
-      read = ap (λ (r : Progress). r.read) begins;
-      under_way = record { within = omega (arith, none); fewer = λ t less. absurd (omega (arith, none, less)) };
-    }
-
 -- as many items as are left are read at most
 within_all : (s : System) (e t most : ℕ) → t ≤ most → length (feed s e t) ≤ items_within s e most
 unfolding items_within
@@ -143,11 +132,11 @@ few_left n start index count most p reads within has some =
     omega (arith, left, few, same, reads.read, has, some)
 
 shown_at : (xs ys : List Item) (k : ℕ) (o p : Option Item) → ((i : ℕ) → i < k → slice_get xs i ≡ slice_get ys i) → slice_get xs k ≡ o → slice_get ys k ≡ p → IsApart o p
-    → difference_of xs ys ≡ Some (record { index = k; left = text_of o; right = text_of p })
+    → difference_of xs ys ≡ Some (record { index = k; left = item_or_none o; right = item_or_none p })
 shown_at xs ys k o p below left right apart =
     difference_there xs ys k below (subst (λ (x : Option Item). IsApart x (slice_get ys k)) (sym left) (subst (IsApart o) (sym right) apart))
-    ∙ ap (λ (x : Option Item). Some (record { index = k; left = text_of x; right = text_of (slice_get ys k) })) left
-    ∙ ap (λ (y : Option Item). Some (record { index = k; left = text_of o; right = text_of y })) right
+    ∙ ap (λ (x : Option Item). Some (record { index = k; left = item_or_none x; right = item_or_none (slice_get ys k) })) left
+    ∙ ap (λ (y : Option Item). Some (record { index = k; left = item_or_none o; right = item_or_none y })) right
 
 -- what is said of the items at which two runs came apart
 decided : (xs ys : List Item) (k : ℕ) (o p : Option Item) → ((i : ℕ) → i < k → slice_get xs i ≡ slice_get ys i) → slice_get xs k ≡ o → slice_get ys k ≡ p

@@ -11,7 +11,7 @@ use Rattle.run_model.specs.Slices.{IsEndOf, slices}
 use Rattle.item_views.specs.Views.{AlikeWhereShownAlike, ItemSeen, item_seen}
 use Rattle.item_views.specs.declared.view.ItemView.{ItemView}
 use Rattle.told_run.specs.Progress.{BeginsWith, IsFirst, IsOver, Progress, WentOn, ended, lent_seen, unread}
-use Rattle.twin_run.specs.Answer.{end_of, is_there, slices_in}
+use Rattle.twin_run.specs.Answer.{end_of_slice, is_there, slices_in}
 use Rattle.twin_run.specs.Course.{AreApart, AreNextSame, CameToEnd, FellShort, IsUnderWay, WentOnTo}
 use Rattle.twin_run.specs.ItemText.{is_alike}
 use Rattle.twin_run.proofs.Alike.{alike_same}
@@ -52,14 +52,6 @@ none_same p q apart = record {
   apart = λ none. apart;
 }
 
-pub apart_left : (p q : Progress) → unread p ≡ [] → AreApart p q
-apart_left p q none x y left right =
-    let gone : None ≡ Some x = sym (ap (λ (xs : List Item). slice_get xs 0) none) ∙ left in absurd (cc)
-
-pub apart_right : (p q : Progress) → unread q ≡ [] → AreApart p q
-apart_right p q none x y left right =
-    let gone : None ≡ Some y = sym (ap (λ (xs : List Item). slice_get xs 0) none) ∙ right in absurd (cc)
-
 pub apart_unlike : (p q : Progress) (a b : ItemSeen) (k l : ℕ) → BeginsWith (unread p) a k → BeginsWith (unread q) b l → is_alike a b ≡ false → AreApart p q
 apart_unlike p q a b k l first next unlike x y left right =
     let one : Some first.item ≡ Some x = sym (there (unread p) a k first 0 first.some) ∙ left in
@@ -86,26 +78,6 @@ at_most n p on = by_ticks p.ticks on.fewer
         let before = fewer t (omega arith) in
         let more = slices_by_one p.system p.env t in
         omega (arith, before, more)
-
--- a run that went on before the end of slice n is still under way
-pub on_way : (n : ℕ) (p q : Progress) → IsUnderWay n p → ended p < n → WentOn p q → IsUnderWay n q
-on_way n p q on before went =
-    let s_is : q.system ≡ p.system = ap (λ (r : Progress). r.system) went.same in
-    let e_is : q.env ≡ p.env = ap (λ (r : Progress). r.env) went.same in
-    record {
-      within = went.within;
-      fewer = λ t less. subst (λ (s : System). slices s q.env t < n) (sym s_is) (subst (λ (e : ℕ). slices p.system e t < n) (sym e_is) (by_place t less (cases_lt p.ticks t)));
-    }
-  where
-    by_place : (t : ℕ) → t < q.ticks → (p.ticks < t) ⊎ (t ≤ p.ticks) → slices p.system p.env t < n
-    by_place t less (inl past) = let same = went.unended t past less in omega (arith, same, before)
-    by_place t less (inr until) = elim (cases_lt t p.ticks) as (λ w. slices p.system p.env t < n) [
-      | inl below ↦ on.fewer t below
-      | inr here ↦
-          let is : t ≡ p.ticks = omega (arith, until, here) in
-          let same : slices p.system p.env t ≡ ended p = ap (slices p.system p.env) is in
-          omega (arith, same, before)
-    ]
 
 -- A run that is over ends no more slices. The limit is a number of its own here, since `slices` would be computed at a literal.
 abbrev IsOverAt : ℕ → Progress → Type 0
@@ -154,6 +126,6 @@ end_reached n p q went present enough =
 -- what falls short is the same of a run of the same system and environment
 pub short_same : (n : ℕ) (p q : Progress) (k : ℕ) → q.system ≡ p.system → q.env ≡ p.env → FellShort n q k → FellShort n p k
 short_same n p q k systems envs short = record {
-  no_end = ap (λ s. end_of s p.env n most_ticks) (sym systems) ∙ ap (λ e. end_of q.system e n most_ticks) (sym envs) ∙ short.no_end;
+  no_end = ap (λ s. end_of_slice s p.env n most_ticks) (sym systems) ∙ ap (λ e. end_of_slice q.system e n most_ticks) (sym envs) ∙ short.no_end;
   count = short.count ∙ ap (λ s. slices_in s q.env most_ticks) systems ∙ ap (λ e. slices_in p.system e most_ticks) envs;
 }
