@@ -3,7 +3,7 @@ use Rattle.std.proofs.Common.{◌≡◌, ◌<◌, ◌∙◌, ℕ, zero, suc, Lis
 use Rattle.std.specs.Prelude.{if◌then◌else◌, option_map, slice_get}
 use Rattle.world_model.specs.Item.{Item}
 use Rattle.item_views.specs.Views.{item_seen}
-use Rattle.twin_run.specs.Answer.{first_difference, item_or_none}
+use Rattle.twin_run.specs.Answer.{first_difference, text_or_none}
 use Rattle.twin_run.specs.Course.{difference_of}
 use Rattle.twin_run.specs.ItemText.{is_alike}
 use Rattle.twin_run.proofs.Alike.{alike_self}
@@ -38,11 +38,11 @@ differ_first (x ∷ xs) (y ∷ ys) (suc k) below apart =
 
 -- so what is shown of the first difference is what stands there
 pub difference_there : (xs ys : List Item) (k : ℕ) → ((i : ℕ) → i < k → slice_get xs i ≡ slice_get ys i) → IsApart (slice_get xs k) (slice_get ys k)
-    → difference_of xs ys ≡ Some (record { index = k; left = item_or_none (slice_get xs k); right = item_or_none (slice_get ys k) })
+    → difference_of xs ys ≡ Some (record { index = k; left = text_or_none (slice_get xs k); right = text_or_none (slice_get ys k) })
 difference_there xs ys k below apart =
-    ap (option_map (λ i. record { index = i; left = item_or_none (slice_get xs i); right = item_or_none (slice_get ys i) })) (differ_first xs ys k below apart)
+    ap (option_map (λ i. record { index = i; left = text_or_none (slice_get xs i); right = text_or_none (slice_get ys i) })) (differ_first xs ys k below apart)
 
 pub difference_nowhere : (xs ys : List Item) → xs ≡ ys → difference_of xs ys ≡ None
 difference_nowhere xs ys same =
-    ap (option_map (λ i. record { index = i; left = item_or_none (slice_get xs i); right = item_or_none (slice_get ys i) }))
+    ap (option_map (λ i. record { index = i; left = text_or_none (slice_get xs i); right = text_or_none (slice_get ys i) }))
     (ap (first_difference xs) (sym same) ∙ same_differ_nowhere xs)

@@ -6,7 +6,7 @@ use Rattle.std.specs.Option.{option_or}
 use Rattle.std.proofs.lemmas.Bool.{cases_lt}
 use Rattle.run_model.specs.Run.{System}
 use Rattle.run_model.specs.Slices.{IsEndOf, slices}
-use Rattle.twin_run.specs.Answer.{end_of_slice, end_within, if_ended, is_there, slices_in}
+use Rattle.twin_run.specs.Answer.{end_in_time, end_within, if_ended, is_there, slices_in}
 use Rattle.twin_run.proofs.Feeds.{slices_rise}
 
 here : (s : System) (e n t : ℕ) → slices s e t ≡ n → if_ended s e n t ≡ Some t
@@ -91,29 +91,29 @@ found_end s e n (suc most) t found = by_first (end_within s e n most) refl (foun
         )
 
 -- of an environment that is there, or isn't
-pub end_there : (s : System) (e n most t : ℕ) → is_there s e ≡ true → IsEndOf s e n t → t ≤ most → end_of_slice s e n most ≡ Some t
-unfolding end_of_slice
+pub end_there : (s : System) (e n most t : ℕ) → is_there s e ≡ true → IsEndOf s e n t → t ≤ most → end_in_time s e n most ≡ Some t
+unfolding end_in_time
 end_there s e n most t present is within =
     ap (λ (b : Bool). if b then end_within s e n most else None) present ∙ end_found s e n most t is within
 
-pub end_absent : (s : System) (e n most : ℕ) → is_there s e ≡ false → end_of_slice s e n most ≡ None
-unfolding end_of_slice
+pub end_absent : (s : System) (e n most : ℕ) → is_there s e ≡ false → end_in_time s e n most ≡ None
+unfolding end_in_time
 end_absent s e n most absent = ap (λ (b : Bool). if b then end_within s e n most else None) absent
 
 none_by : (there : Bool) (o : Option ℕ) → o ≡ None → (if there then o else None) ≡ None
 none_by true o none = none
 none_by false o none = refl
 
-pub end_none : (s : System) (e n most : ℕ) → ((u : ℕ) → u ≤ most → slices s e u < n) → end_of_slice s e n most ≡ None
-unfolding end_of_slice
+pub end_none : (s : System) (e n most : ℕ) → ((u : ℕ) → u ≤ most → slices s e u < n) → end_in_time s e n most ≡ None
+unfolding end_in_time
 end_none s e n most fewer = none_by (is_there s e) (end_within s e n most) (no_end s e n most fewer)
 
 end_by : (s : System) (e n most t : ℕ) (there : Bool) → (if there then end_within s e n most else None) ≡ Some t → IsEndOf s e n t × (t ≤ most)
 end_by s e n most t true is = found_end s e n most t is
 end_by s e n most t false is = absurd (cc)
 
-pub is_end : (s : System) (e n most t : ℕ) → end_of_slice s e n most ≡ Some t → IsEndOf s e n t × (t ≤ most)
-unfolding end_of_slice
+pub is_end : (s : System) (e n most t : ℕ) → end_in_time s e n most ≡ Some t → IsEndOf s e n t × (t ≤ most)
+unfolding end_in_time
 is_end s e n most t is = end_by s e n most t (is_there s e) is
 
 pub slices_there : (s : System) (e most : ℕ) → is_there s e ≡ true → slices_in s e most ≡ slices s e most

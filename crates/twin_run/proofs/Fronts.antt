@@ -10,8 +10,8 @@ use Rattle.run_model.specs.Slices.{IsEndOf}
 use Rattle.item_views.specs.Views.{item_seen}
 use Rattle.told_run.specs.Progress.{Progress, ended, told, unread}
 use Rattle.twin_run.specs.declared.difference.Difference.{Difference}
-use Rattle.twin_run.specs.Answer.{item_or_none}
-use Rattle.twin_run.specs.Course.{AreEnds, AreNextSame, AreSameBelow, Begins, CameApart, CameToItem, HasNext, IsDifference, IsDone, IsUnderWay, Reads, difference_at, difference_of, front, items_within, settled}
+use Rattle.twin_run.specs.Answer.{text_or_none}
+use Rattle.twin_run.specs.Course.{AreEnds, AreNextSame, AreSameBelow, CameApart, CameToItem, HasNext, IsDifference, IsDone, IsUnderWay, Reads, difference_at, difference_of, front, items_within, settled}
 use Rattle.twin_run.specs.ItemText.{is_alike}
 use Rattle.twin_run.specs.Law.{IsSameWhereEqual}
 use Rattle.twin_run.proofs.Differences.{IsApart, difference_nowhere, difference_there}
@@ -132,11 +132,11 @@ few_left n start index count most p reads within has some =
     omega (arith, left, few, same, reads.read, has, some)
 
 shown_at : (xs ys : List Item) (k : ℕ) (o p : Option Item) → ((i : ℕ) → i < k → slice_get xs i ≡ slice_get ys i) → slice_get xs k ≡ o → slice_get ys k ≡ p → IsApart o p
-    → difference_of xs ys ≡ Some (record { index = k; left = item_or_none o; right = item_or_none p })
+    → difference_of xs ys ≡ Some (record { index = k; left = text_or_none o; right = text_or_none p })
 shown_at xs ys k o p below left right apart =
     difference_there xs ys k below (subst (λ (x : Option Item). IsApart x (slice_get ys k)) (sym left) (subst (IsApart o) (sym right) apart))
-    ∙ ap (λ (x : Option Item). Some (record { index = k; left = item_or_none x; right = item_or_none (slice_get ys k) })) left
-    ∙ ap (λ (y : Option Item). Some (record { index = k; left = item_or_none o; right = item_or_none y })) right
+    ∙ ap (λ (x : Option Item). Some (record { index = k; left = text_or_none x; right = text_or_none (slice_get ys k) })) left
+    ∙ ap (λ (y : Option Item). Some (record { index = k; left = text_or_none o; right = text_or_none y })) right
 
 -- what is said of the items at which two runs came apart
 decided : (xs ys : List Item) (k : ℕ) (o p : Option Item) → ((i : ℕ) → i < k → slice_get xs i ≡ slice_get ys i) → slice_get xs k ≡ o → slice_get ys k ≡ p

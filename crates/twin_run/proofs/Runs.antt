@@ -1,17 +1,17 @@
 -- Runs on their way to the end of a slice.
-use Rattle.std.proofs.Common.{◌≡◌, ◌<◌, ◌≤◌, ◌+◌, ◌∙◌, ℕ, zero, suc, List, [], true, false, Option, Some, None, ap, arith, length, subst, sym, inl, inr}
+use Rattle.std.proofs.Common.{◌≡◌, ◌<◌, ◌≤◌, ◌+◌, ◌∙◌, ℕ, zero, suc, List, [], true, false, Option, Some, None, ap, arith, length, sym, inl, inr}
 use Rattle.std.specs.Prelude.{◌⊎◌, is_some, min, replicate, slice_get}
 use Rattle.std.proofs.lemmas.Bool.{cases_lt}
 use Rattle.std.proofs.lemmas.List.{length-append, length-replicate}
 use Rattle.aegis_limits.specs.Limits.{most_ticks}
 use Rattle.world_model.specs.Book.{is_idle_book}
 use Rattle.world_model.specs.Item.{Item}
-use Rattle.run_model.specs.Run.{System, world_after}
+use Rattle.run_model.specs.Run.{world_after}
 use Rattle.run_model.specs.Slices.{IsEndOf, slices}
 use Rattle.item_views.specs.Views.{AlikeWhereShownAlike, ItemSeen, item_seen}
 use Rattle.item_views.specs.declared.view.ItemView.{ItemView}
-use Rattle.told_run.specs.Progress.{BeginsWith, IsFirst, IsOver, Progress, WentOn, ended, lent_seen, unread}
-use Rattle.twin_run.specs.Answer.{end_of_slice, is_there, slices_in}
+use Rattle.told_run.specs.Progress.{BeginsWith, IsFirst, IsOver, Progress, ended, lent_seen, unread}
+use Rattle.twin_run.specs.Answer.{end_in_time, is_there, slices_in}
 use Rattle.twin_run.specs.Course.{AreApart, AreNextSame, CameToEnd, FellShort, IsUnderWay, WentOnTo}
 use Rattle.twin_run.specs.ItemText.{is_alike}
 use Rattle.twin_run.proofs.Alike.{alike_same}
@@ -126,6 +126,6 @@ end_reached n p q went present enough =
 -- what falls short is the same of a run of the same system and environment
 pub short_same : (n : ℕ) (p q : Progress) (k : ℕ) → q.system ≡ p.system → q.env ≡ p.env → FellShort n q k → FellShort n p k
 short_same n p q k systems envs short = record {
-  no_end = ap (λ s. end_of_slice s p.env n most_ticks) (sym systems) ∙ ap (λ e. end_of_slice q.system e n most_ticks) (sym envs) ∙ short.no_end;
+  no_end = ap (λ s. end_in_time s p.env n most_ticks) (sym systems) ∙ ap (λ e. end_in_time q.system e n most_ticks) (sym envs) ∙ short.no_end;
   count = short.count ∙ ap (λ s. slices_in s q.env most_ticks) systems ∙ ap (λ e. slices_in p.system e most_ticks) envs;
 }

@@ -20,8 +20,8 @@ first_difference (x ∷ xs) (y ∷ ys) =
     if is_alike (item_seen x) (item_seen y) then option_map suc (first_difference xs ys) else Some 0
 
 -- the text of an item, and of none past the end of a feed
-abbrev pub item_or_none : Option Item → List ℕ
-item_or_none item = option_map_or (λ x. item_text (item_seen x)) item (codes "none")
+abbrev pub text_or_none : Option Item → List ℕ
+text_or_none item = option_map_or (λ x. item_text (item_seen x)) item (codes "none")
 
 -- whether an image has an environment of this number
 abbrev pub is_there : System → ℕ → Bool
@@ -36,8 +36,8 @@ end_within system e n zero = if_ended system e n zero
 end_within system e n (suc most) = option_or (end_within system e n most) (if_ended system e n (suc most))
 
 -- an environment that isn't there has no slices
-unfoldable pub end_of_slice : System → ℕ → ℕ → ℕ → Option ℕ
-end_of_slice system e n most = if is_there system e then end_within system e n most else None
+unfoldable pub end_in_time : System → ℕ → ℕ → ℕ → Option ℕ
+end_in_time system e n most = if is_there system e then end_within system e n most else None
 
 unfoldable pub slices_in : System → ℕ → ℕ → ℕ
 slices_in system e most = if is_there system e then slices system e most else 0
@@ -46,7 +46,7 @@ slices_in system e most = if is_there system e then slices system e most else 0
 abbrev pub compared : List Item → List Item → List ℕ → Option ℕ → TwinAnswer
 compared left right lines None = Same (fingerprint lines)
 compared left right lines (Some index) =
-    FeedsDiffer index (item_or_none (slice_get left index)) (item_or_none (slice_get right index))
+    FeedsDiffer index (text_or_none (slice_get left index)) (text_or_none (slice_get right index))
 
 -- where the slices end, if they do: a side that doesn't come to its end is named, the left one first
 abbrev pub answer_by : System → System → ℕ → ℕ → Option ℕ → Option ℕ → TwinAnswer
@@ -59,4 +59,4 @@ answer_by left right e most (Some t) (Some u) =
 -- The answer on two systems, of an environment up to the end of its slice n, each of at most so many ticks: the side
 -- that doesn't come so far, else the first difference of what both are given, else that it is the same.
 abbrev pub twin_answer : System → System → ℕ → ℕ → ℕ → TwinAnswer
-twin_answer left right e n most = answer_by left right e most (end_of_slice left e n most) (end_of_slice right e n most)
+twin_answer left right e n most = answer_by left right e most (end_in_time left e n most) (end_in_time right e n most)

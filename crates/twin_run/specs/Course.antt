@@ -10,7 +10,7 @@ use Rattle.run_report.specs.Report.{fingerprint}
 use Rattle.twin_run.specs.declared.answer.TwinAnswer.{TwinAnswer}
 use Rattle.twin_run.specs.declared.answer.TwinAnswer.TheVariants.{FeedsDiffer, Same}
 use Rattle.twin_run.specs.declared.difference.Difference.{Difference}
-use Rattle.twin_run.specs.Answer.{end_of_slice, first_difference, is_there, slices_in, item_or_none}
+use Rattle.twin_run.specs.Answer.{end_in_time, first_difference, is_there, slices_in, text_or_none}
 use Rattle.twin_run.specs.ItemText.{is_alike}
 
 -- a run that begins
@@ -88,12 +88,12 @@ pub record CameApart (n : ℕ) (left right p q : Progress) (index : ℕ) : Type 
 -- items at an index where they aren't the same, if there is one on a side at least
 abbrev pub difference_at : ℕ → Option Item → Option Item → Option Difference
 difference_at index None None = None
-difference_at index left right = Some (record { index = index; left = item_or_none left; right = item_or_none right })
+difference_at index left right = Some (record { index = index; left = text_or_none left; right = text_or_none right })
 
 -- the first difference of two feeds, as it is shown
 abbrev pub difference_of : List Item → List Item → Option Difference
 difference_of left right = option_map
-    (λ i. record { index = i; left = item_or_none (slice_get left i); right = item_or_none (slice_get right i) })
+    (λ i. record { index = i; left = text_or_none (slice_get left i); right = text_or_none (slice_get right i) })
     (first_difference left right)
 
 -- what is answered of a difference, or of none where the left run shows these lines of the environment
@@ -116,11 +116,11 @@ pub record WentOnTo (n : ℕ) (p q : Progress) : Type 0 where
 pub record CameToEnd (n : ℕ) (p q : Progress) : Type 0 where
   pub went : WentOnTo n p q
   pub there : is_there q.system q.env ≡ true
-  pub end : end_of_slice q.system q.env n most_ticks ≡ Some q.ticks
+  pub end : end_in_time q.system q.env n most_ticks ≡ Some q.ticks
   pub is_end : IsEndOf q.system q.env n q.ticks
 
 pub record FellShort (n : ℕ) (p : Progress) (slices : ℕ) : Type 0 where
-  pub no_end : end_of_slice p.system p.env n most_ticks ≡ None
+  pub no_end : end_in_time p.system p.env n most_ticks ≡ None
   pub count : slices ≡ slices_in p.system p.env most_ticks
 
 abbrev pub EndedSo : ℕ → Progress → Progress → Option ℕ → Type 0

@@ -1,6 +1,6 @@
 //! The first difference of what two runs give.
 ghost use Rattle.std.specs.Prelude.{◌≡◌, IfOk, Option, option_map};
-ghost use Rattle.twin_run.specs.Answer.{item_or_none};
+ghost use Rattle.twin_run.specs.Answer.{text_or_none};
 ghost use Rattle.twin_run.specs.Course.{difference_at, front};
 
 use crate::item_text::ItemText;
@@ -23,7 +23,7 @@ pub(crate) struct Difference {
 /// The text of the item that comes next in a run.
 fn next_text<R: ToldRun>(alloc: Global, run: &R) -> Result<ItemText, OutOfMemory>
     requires { R.IsWhole run.now }
-    ensures { IfOk result (λ text. text ≡ item_or_none (front (R.progress run.now))) }
+    ensures { IfOk result (λ text. text ≡ text_or_none (front (R.progress run.now))) }
 {
     match run.first() {
         Some((item, _)) => ItemText::of(alloc, item),

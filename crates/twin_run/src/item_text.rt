@@ -2,7 +2,7 @@
 ghost use Rattle.std.specs.Prelude.{◌≡◌, ◌++◌, [], ◌∷◌, ◌==◌, IfOk, OnOk, codes};
 ghost use Rattle.std.specs.List.{flat_map};
 ghost use Rattle.line_text.specs.Text.{dec_text};
-ghost use Rattle.line_text.specs.WrittenLine.{bytes_text, spaced, item_or_none};
+ghost use Rattle.line_text.specs.WrittenLine.{bytes_text, spaced, text_of};
 ghost use Rattle.line_text.specs.declared.line_writing.Word.TheVariants.{Number};
 ghost use Rattle.run_report.specs.Report.{fingerprint, mode_text};
 ghost use Rattle.told_run.specs.Progress.{lent_seen};
@@ -105,7 +105,7 @@ fn number(n: u32) -> Word<'static>
 
 /// A page as a word, or a dash where its number stands for none.
 fn page_or_dash(page: u32) -> Word<'static>
-    ensures { item_or_none result ≡ page_or_dash page }
+    ensures { text_of result ≡ page_or_dash page }
 {
     if page == NO_PAGE {
         Word::Dash
@@ -116,7 +116,7 @@ fn page_or_dash(page: u32) -> Word<'static>
 
 /// Whether a page may be stored to, in a letter.
 fn mode(mode: u32) -> Word<'static>
-    ensures { item_or_none result ≡ mode_text (mode == 1) }
+    ensures { text_of result ≡ mode_text (mode == 1) }
 {
     if mode == WRITABLE {
         Word::Text(b"w")
@@ -127,7 +127,7 @@ fn mode(mode: u32) -> Word<'static>
 
 /// Appends two words, each behind a space.
 fn push_pair(out: &mut Vec<u8>, first: Word<'_>, second: Word<'_>) -> Result<(), OutOfMemory>
-    ensures { OnOk result (out.new.items ≡ out.old.items ++ flat_map spaced (item_or_none first.entry ∷ item_or_none second.entry ∷ [])) }
+    ensures { OnOk result (out.new.items ≡ out.old.items ++ flat_map spaced (text_of first.entry ∷ text_of second.entry ∷ [])) }
 {
     push_spaced(out, first)?;
     push_spaced(out, second)
@@ -140,7 +140,7 @@ fn push_pair_and_fingerprint(
     second: Word<'_>,
     bytes: &[u8],
 ) -> Result<(), OutOfMemory>
-    ensures { OnOk result (out.new.items ≡ out.old.items ++ flat_map spaced (item_or_none first.entry ∷ item_or_none second.entry ∷ fingerprint bytes.now ∷ [])) }
+    ensures { OnOk result (out.new.items ≡ out.old.items ++ flat_map spaced (text_of first.entry ∷ text_of second.entry ∷ fingerprint bytes.now ∷ [])) }
 {
     push_pair(out, first, second)?;
     push_spaced(out, Word::Text(&fingerprint(bytes)))
