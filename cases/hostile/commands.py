@@ -1,0 +1,137 @@
+"""What each command answers to words and files, by docs/REPORT.md and the reference in cases/reference_model."""
+from __future__ import annotations
+
+import os
+import re
+import sys
+from typing import Callable, Dict, List, Sequence, Tuple
+
+CASES = os.path.dirname(os.path.dirname(os.path.realpath(__file__)))
+sys.path[:0] = [f"{CASES}/reference_model", f"{CASES}/audit"]
+import auditor
+import bare
+import report
+import wire
+from assembler import assemble, listed
+from files import Fault, image_of, read_elf, read_image, read_manifest
+from limits import MOST_DELAY, MOST_MACHINES, MOST_QUANTUM, LEAST_QUANTUM, MOST_TARGET, MOST_TICKS, MOST_TRACED_TICKS, MOST_WIRE_TICKS
+from tlb import tlb_answer
+from trace import Traces
+
+DONE, USAGE, REFUSED, READ_FAULT = 0, 2, 3, 4
+Files = Dict[str, bytes]
+Answer = Tuple[int, bytes]  # a status, and what is written
+FILE = None  # of a form: a word that names a file
+# By command, its words: the name of a file, or the least and the greatest number.
+TICKS = (0, MOST_TICKS)
+FORMS: Dict[str, Tuple] = {
+    "run": (FILE, FILE, TICKS), "tlb": (FILE, FILE, TICKS), "trace": (FILE, FILE, (0, MOST_TRACED_TICKS), (0, MOST_TARGET)), "asm": (FILE,),
+    "image": (FILE,), "list": (FILE,), "load": ((0, 2**32 - 1),), "bare": (FILE, TICKS, TICKS), "audit": (FILE, (LEAST_QUANTUM, MOST_QUANTUM)),
+}
+WIRE = ((1, MOST_DELAY), (0, MOST_WIRE_TICKS))
+
+
+def form_of(words: Sequence[str]) -> Tuple:
+    """The form that so many words of a command have, or none."""
+    if words[0] == "wire" and len(words) > 3 and len(words) % 2 and len(words) <= 3 + 2 * MOST_MACHINES:
+        return WIRE + (FILE,) * (len(words) - 3)
+    if words[0] == "audit" and len(words) == 4:
+        return (*FORMS["audit"], FILE)
+    return FORMS.get(words[0], ())
+
+
+def fits(word: str, part: Tuple[int, int]) -> bool:
+    return part is FILE or re.fullmatch("[0-9]{1,10}", word) is not None and part[0] <= int(word) <= part[1]
+
+
+def is_command(words: Sequence[str]) -> bool:
+    """Whether these are words of a command."""
+    form = form_of(words) if words else ()
+    return len(form) == len(words) - 1 > 0 and all(map(fits, words[1:], form))
+
+
+def names_in(words: Sequence[str]) -> List[str]:
+    """The words of a command that name files."""
+    return [word for word, part in zip(words[1:], form_of(words)) if part is FILE]
+
+
+def refusal(name: str, fault: Fault) -> Answer:
+    return REFUSED, f"aegis: {name}: {fault}\n".encode()
+
+
+def named(words: Sequence[str], files: Files) -> List[Tuple[str, bytes]]:
+    return [(name, files[name]) for name in names_in(words)]
+
+
+def run(words: Sequence[str], files: Files) -> Answer:
+    status, text, _ = report.answer(named(words, files), int(words[3]))
+    return status, text.encode("latin-1")
+
+
+def tlb(words: Sequence[str], files: Files) -> Answer:
+    status, text, _ = tlb_answer(named(words, files), int(words[3]))
+    return status, text.encode("latin-1")
+
+
+def trace(words: Sequence[str], files: Files) -> Answer:
+    traces, ticks = Traces(), int(words[3])
+    status, text, board = report.answer(named(words, files), ticks, traces.finish)
+    return status, (traces.text(board, ticks, int(words[4])) if board else text).encode("latin-1")
+
+
+def asm(words: Sequence[str], files: Files) -> Answer:
+    try:
+        return DONE, assemble(files[words[1]])
+    except Fault as fault:
+        return refusal(words[1], fault)
+
+
+def list_elf(words: Sequence[str], files: Files) -> Answer:
+    try:
+        return DONE, "".join(f"{line}\n" for line in listed(read_elf(files[words[1]])[1])).encode()
+    except Fault as fault:
+        return refusal(words[1], fault)
+
+
+def image(words: Sequence[str], files: Files) -> Answer:
+    try:
+        manifest = read_manifest(files[words[1]])
+        by_name = {name.encode(): content for name, content in files.items()}
+        if any(entry[-1] not in by_name for entry in manifest.entries):
+            return READ_FAULT, b""
+        made = image_of(manifest, by_name)
+        read_image(made)
+        return DONE, made
+    except Fault as fault:
+        return refusal(words[1], fault)
+
+
+def audit(words: Sequence[str], files: Files) -> Answer:
+    names = names_in(words)
+    status, text = auditor.answer_to(files[names[0]], int(words[2]), files[names[1]] if names[1:] else None, (names[0], names[-1]))
+    return status, text.encode("latin-1")
+
+
+def bare_board(words: Sequence[str], files: Files) -> Answer:
+    status, text, _ = bare.answer(words[1], files[words[1]], int(words[2]), int(words[3]))
+    return status, text.encode("latin-1")
+
+
+def wired(words: Sequence[str], files: Files) -> Answer:
+    pairs = named(words, files)
+    status, text, _ = wire.answer(list(zip(pairs[::2], pairs[1::2])), int(words[1]), int(words[2]))
+    return status, text.encode("latin-1")
+
+
+COMMANDS: Dict[str, Callable[[Sequence[str], Files], Answer]] = {
+    "run": run, "tlb": tlb, "trace": trace, "asm": asm, "list": list_elf, "image": image, "audit": audit, "bare": bare_board, "wire": wired,
+}
+
+
+def answer_to(words: Sequence[str], files: Files) -> Answer:
+    """What is due of these words, where these files and no others are there. Of `load` only what isn't its form is asked."""
+    if not is_command(words):
+        return USAGE, b"aegis: usage\n"
+    if any(name not in files for name in names_in(words)):
+        return READ_FAULT, b""
+    return COMMANDS[words[0]](words, files)
