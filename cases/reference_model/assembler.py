@@ -23,7 +23,7 @@ REGISTER = r"\$[A-Za-z0-9]+"
 QUOTED = r'"(?:[^"\\]|\\[nt0\\"])*"'
 ESCAPES = {"n": "\n", "t": "\t", "0": "\0", "\\": "\\", '"': '"'}
 NAMES = "zero at v0 v1 a0 a1 a2 a3 t0 t1 t2 t3 t4 t5 t6 t7 s0 s1 s2 s3 s4 s5 s6 s7 t8 t9 k0 k1 gp sp fp ra"
-NAMED = {**{name: number for number, name in enumerate(NAMES.split())}, "fp": 29}
+NAMED = {name: number for number, name in enumerate(NAMES.split())}
 
 # By name, the word of an instruction without its operands, and the letters of these (listing.py).
 INSTRUCTIONS: Dict[str, Tuple[int, str]] = {
