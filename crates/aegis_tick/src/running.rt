@@ -11,6 +11,7 @@ ghost use Rattle.world_model.specs.Book.{is_idle_book};
 ghost use Rattle.world_model.specs.Event.{happen, schedule_of};
 ghost use Rattle.world_model.specs.Tick.{tick_step};
 ghost use Rattle.world_model.specs.World.{after};
+ghost use Rattle.fills_law.specs.Fills.{AreFew};
 ghost use Rattle.run_model.specs.Excess.{IsAccounted};
 ghost use Rattle.run_model.specs.Run.{world_after_ticks, end_of_run};
 ghost use Rattle.tlb_course.specs.Course.{cache_after_ticks, cache_ticked};
@@ -21,6 +22,7 @@ use crate::laws::law_halves;
 use aegis_calls::{Board, SERVE_ROWS, STEP_ROWS, TURN_ROWS};
 use aegis_limits::OutOfMemory;
 use external_event::Event;
+use fills_law::law_fills;
 use kernel_journal::RunEnd;
 use run_model::law_accounts;
 use tlb_course::law_further;
@@ -54,15 +56,18 @@ pub fn event(board: &mut Board, event: &Event)
 }
 
 /// One tick in which nothing happens from outside: the deadlines that have come, the turn, the runner's step, and the
-/// timer. It is its two halves, and takes no memory. A tick makes one claim at most, so that the number of the next claim is at most the time.
+/// timer. It is its two halves, and takes no memory. A tick makes one claim at most, so that the number of the next claim is
+/// at most the time. It refills at most two rows of the TLB and forwards at most one miss, all of one environment.
 pub fn tick(board: &mut Board)
     requires may { MayTick board.old }
     requires room { TICK_ROWS ≤ board.old.ledger.spare }
     ensures world { world_of board.new ≡ tick_step (world_of board.old) }
     ensures tlb { board.new.tlb ≡ cache_ticked (world_of board.old) board.old.tlb }
+    ensures fills { AreFew board.old.tlb.fills board.new.tlb.fills }
     ensures ticked { IsTicked board.old board.new }
     ensures room { board.old.ledger.spare ≤ board.new.ledger.spare + TICK_ROWS }
 {
+    law_fills();
     law_halves();
     begin_tick(board);
     finish_tick(board);

@@ -3,7 +3,7 @@ ghost use Rattle.ledger_law.specs.LedgerLaw.{EndFits, RowsFit, RunsAreClean};
 
 use call_verdicts::law_granted;
 use ledger_audit::law_audit;
-use run_model::{law_next_turn, law_turn};
+use run_model::{law_next_turn, law_time, law_turn};
 
 /// The rows of every run fit, each behind those before it, for every image within its limits, every schedule and every
 /// number of ticks.
@@ -19,6 +19,7 @@ pub fn law_ledger()
 pub fn law_ledger_end()
     ensures { EndFits }
 {
+    law_time();
     law_granted();
     law_next_turn();
     law_turn();

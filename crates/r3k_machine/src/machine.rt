@@ -114,7 +114,7 @@ impl Machine {
     fn stands_at_call(&self, frames: &Frames) -> bool
         ensures { result ≡ stands_at_call self.now frames.now }
     {
-        match CodePage::of(frames, &self.tlb, &self.cp0, self.cpu.pc) {
+        match CodePage::at(frames, &self.tlb, &self.cp0, self.cpu.pc) {
             Some(code) if !self.cpu.slot => {
                 is_syscall(code.word(frames, &self.tlb, &self.cp0, self.cpu.pc))
             }

@@ -10,3 +10,4 @@ pub mod Balance
 mod Licensing
 mod Verified
 mod Ends
+mod Time

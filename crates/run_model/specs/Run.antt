@@ -132,6 +132,12 @@ PhasesGive = (system : System) (t e : ℕ) → is_idle_book (world_after system 
 abbrev pub IsFoldOfFeed : Type 0
 IsFoldOfFeed = (system : System) (t e : ℕ) → (world_after system t).solos e ≡ absorb_all (absent e) (feed system e t)
 
+-- A world that begins at time 0 is at its tick's time as long as it isn't idle.
+abbrev pub TimeIsTick : Type 0
+TimeIsTick = (schedule : Schedule) (w : World) (t : ℕ) → w.book.time ≡ 0
+    → is_idle_book (world_after_ticks schedule w t).book ≡ false
+    → (world_after_ticks schedule w t).book.time ≡ t
+
 -- phases in turn are the phases one after another
 abbrev pub InTurnIsEach : Type 0
 InTurnIsEach = (w : World) (phases : List (World → Reply)) → after w (in_turn phases w) ≡ run_phases w phases

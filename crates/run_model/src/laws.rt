@@ -7,7 +7,7 @@ ghost use Rattle.run_model.specs.Licensed.{FeedIsLicensed, GivenIsLicensed};
 ghost use Rattle.run_model.specs.Handlers.{HandlersAreVerified};
 ghost use Rattle.run_model.specs.Live.{StoresAreLive};
 ghost use Rattle.run_model.specs.Slices.{SlicesEndLast, SlicesEndStopped};
-ghost use Rattle.run_model.specs.Run.{InTurnIsEach, IsFoldOfFeed, MomentsAreInOrder, PhasesGive};
+ghost use Rattle.run_model.specs.Run.{InTurnIsEach, IsFoldOfFeed, MomentsAreInOrder, PhasesGive, TimeIsTick};
 
 use call_verdicts::{law_again, law_granted};
 use revocation_book::law_takable;
@@ -34,6 +34,11 @@ pub fn law_alone()
 /// Every handler that a claim of an environment has at some moment of a run is verified: it has no bad word.
 pub fn law_handlers()
     ensures { HandlersAreVerified }
+{}
+
+/// A world that begins at time 0 is at its tick's time as long as it isn't idle.
+pub fn law_time()
+    ensures { TimeIsTick }
 {}
 
 /// The next turn is that of the first held slot after the cursor, all around, the cursor's own slot

@@ -6,5 +6,6 @@ mod laws;
 
 pub use laws::{
     law_accounts, law_alone, law_balance, law_boot_accounts, law_feed, law_handlers, law_in_turn,
-    law_licence_by_stores, law_moments, law_next_turn, law_rows_are_lawful, law_slices, law_turn,
+    law_licence_by_stores, law_moments, law_next_turn, law_rows_are_lawful, law_slices, law_time,
+    law_turn,
 };

@@ -8,11 +8,10 @@ use Rattle.world_model.specs.declared.slot.Runner.{Runner}
 use Rattle.world_model.specs.Book.{Book, is_idle_book, is_runner, running}
 use Rattle.world_model.specs.Event.{Schedule, happen}
 use Rattle.world_model.specs.World.{World, run_phases}
-use Rattle.run_model.specs.Run.{happens_in, next_world, world_after_ticks}
+use Rattle.run_model.specs.Run.{TimeIsTick, happens_in, next_world, world_after_ticks}
 use Rattle.board_model.specs.Shown.{Shown}
 use Rattle.board_model.specs.Showing.{world_of}
 use Rattle.board_model.specs.Stretch.{AreSteady, IsAtStep, IsQuiet}
-use Rattle.wire_model.specs.Laws.{TimeIsTick}
 use Rattle.aegis_tick.specs.Halves.{first_half, mid}
 use Rattle.tlb_course.specs.Further.{WorldsGoOn}
 use Rattle.trace_view.specs.Others.{AnotherRuns}

@@ -24,10 +24,10 @@ use aegis_tick::{
 use boot_image::Image;
 use external_event::Event;
 use line_text::{Word, push_line, push_word};
+use run_model::law_time;
 use run_report::push_end_line;
 use std::alloc::Global;
 use tlb_course::law_further;
-use wire_model::law_time;
 use world_model::WorldView;
 
 /// Makes a tick in which these events happen, and appends the line of the environment's step, if it makes one.

@@ -1,2 +1,1 @@
-mod Time
 mod Settled

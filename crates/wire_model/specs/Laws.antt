@@ -6,12 +6,6 @@ use Rattle.world_model.specs.World.{World}
 use Rattle.run_model.specs.Run.{world_after_ticks}
 use Rattle.wire_model.specs.Wire.{Wire, after_tick, arrivals, put_on_wire, wired, world_in, world_on_wire}
 
--- A world that begins at time 0 is at its tick's time as long as it isn't idle.
-abbrev pub TimeIsTick : Type 0
-TimeIsTick = (schedule : Schedule) (w : World) (t : ℕ) → w.book.time ≡ 0
-    → is_idle_book (world_after_ticks schedule w t).book ≡ false
-    → (world_after_ticks schedule w t).book.time ≡ t
-
 -- Its run to a tick reads its schedule below that tick alone.
 abbrev pub ReadsBelow : Type 0
 ReadsBelow = (one other : Schedule) (w : World) (t : ℕ) → w.book.time ≡ 0

@@ -6,7 +6,7 @@
 mod laws;
 mod limits;
 
-pub use laws::{law_reads_below, law_settled, law_tick, law_time};
+pub use laws::{law_reads_below, law_settled, law_tick};
 pub use limits::{
     ALL_OTHERS, MOST_DELAY, MOST_MACHINES, MOST_WIRE_TICKS, constants_are_the_wires_limits,
 };

@@ -12,9 +12,9 @@ use Rattle.world_model.specs.World.{World}
 use Rattle.board_model.specs.Shown.{Shown}
 use Rattle.board_model.specs.Showing.{world_of}
 use Rattle.board_model.specs.Ticks.{IsFresh}
-use Rattle.run_model.specs.Run.{happens_in}
+use Rattle.run_model.specs.Run.{TimeIsTick, happens_in}
 use Rattle.aegis_tick.specs.Course.{HappenedInPart, world_with}
-use Rattle.wire_model.specs.Laws.{BeginAtZero, FramesAreSettled, HappensOnWire, TicksOnWire, TimeIsTick, WorldsAreSettled}
+use Rattle.wire_model.specs.Laws.{BeginAtZero, FramesAreSettled, HappensOnWire, TicksOnWire, WorldsAreSettled}
 use Rattle.wire_model.specs.Wire.{Frame, Wire, arrival, arrivals, framed, is_frame_for, joined, put_on_wire, sent_between, wired, world_in, world_on_wire}
 use Rattle.wire_net.specs.declared.delivery.Delivery.{Delivery}
 use Rattle.wire_net.specs.Course.{AllShow, CameSoFar, IsWireOf}

@@ -20,9 +20,10 @@ use crate::station::{advance, due, run_on};
 use aegis_calls::Board;
 use aegis_limits::OutOfMemory;
 use external_event::Event;
+use run_model::law_time;
 use std::alloc::Global;
 use std::collections::VecDeque;
-use wire_model::{law_settled, law_tick, law_time};
+use wire_model::{law_settled, law_tick};
 use world_model::WorldView;
 
 /// Where a machine is, what is still to come for it, and what it has on the wire.

@@ -1,7 +1,9 @@
 -- The halves, one after the other.
-use Rattle.std.proofs.Common.{sym, ap, ◌∙◌}
+use Rattle.std.proofs.Common.{sym, ap, subst, ◌∙◌}
 use Rattle.board_model.specs.Showing.{world_of}
 use Rattle.world_model.specs.World.{World}
+use Rattle.tlb_model.specs.Cache.{Cache}
+use Rattle.fills_law.specs.Fills.{AreFew}
 use Rattle.tlb_course.specs.Course.{cache_finished}
 use Rattle.aegis_tick.specs.Halves.{first_half, second_half}
 use Rattle.aegis_tick.proofs.running.tick.Goals as goal
@@ -17,3 +19,8 @@ returns-clause-tlb c =
     c.finish_tick.ensures.tlb
     ∙ ap (λ (w : World). cache_finished w c.begin_tick.new.board.tlb) c.begin_tick.ensures.world
     ∙ ap (cache_finished (first_half (world_of c.args.board.now))) c.begin_tick.ensures.tlb
+
+pub returns-clause-fills : goal.returns-clause-fills
+returns-clause-fills c =
+    let before = c.args.board.now.tlb in
+    subst (λ (behind : Cache). AreFew before.fills behind.fills) (sym (returns-clause-tlb c)) (c.law_fills.ensures (world_of c.args.board.now) before)

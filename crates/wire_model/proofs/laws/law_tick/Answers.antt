@@ -6,4 +6,4 @@ pub returns-clause-happens : goal.returns-clause-happens
 returns-clause-happens c = happens_on_wire
 
 pub returns-clause-ticks : goal.returns-clause-ticks
-returns-clause-ticks c = ticks_on_wire
+returns-clause-ticks c = ticks_on_wire c.law_time.ensures

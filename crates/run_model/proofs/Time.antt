@@ -25,9 +25,8 @@ use Rattle.world_model.specs.Step.{Act, Nothing, Stores, Calls, Raises, Dies}
 use Rattle.world_model.specs.Tick.{act_now, act_reply, count_when, phases_after, serve_phases, step, step_when, timer, timer_now, timer_reply, turn, turn_when, take_turn}
 use Rattle.world_model.specs.Verdict.{asks_one, done, reply_by_verdict, verdict}
 use Rattle.world_model.specs.World.{World, Reply, after, is_living, no_change, run_phases}
-use Rattle.run_model.specs.Run.{happens_in, next_phases, takings_next, world_after_ticks}
+use Rattle.run_model.specs.Run.{TimeIsTick, happens_in, next_phases, takings_next, world_after_ticks}
 use Rattle.run_model.proofs.Phases.{run_append}
-use Rattle.wire_model.specs.Laws.{TimeIsTick}
 
 -- ---- no phase but the timer changes the time
 
