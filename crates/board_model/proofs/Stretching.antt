@@ -1,12 +1,12 @@
 -- Plain ticks of a board are ticks of the model.
-use Rattle.std.proofs.Common.{◌≡◌, ◌<◌, ◌≤◌, ℕ, zero, suc, ◌+◌, ◌-◌, List, [], length, length-set, Bool, false, Option, Some, refl, sym, ◌∙◌, ap, add-zero, arith, rules}
+use Rattle.std.proofs.Common.{◌≡◌, ◌<◌, ◌≤◌, ℕ, zero, suc, ◌+◌, ◌-◌, List, [], length, length-set, Bool, false, Option, Some, refl, sym, ◌∙◌, ap, subst, add-zero, arith, rules}
 use Rattle.std.specs.Prelude.{◌&&◌, is_none, map, slice_get, unwrap_or}
 use Rattle.std.specs.Option.{option_map}
 use Rattle.std.proofs.lemmas.Bool.{ne_eqb}
 use Rattle.mips_exec.specs.Access.{Write}
 use Rattle.mips_exec.specs.declared.registers.Cpu.{Cpu}
 use Rattle.mips_exec.specs.declared.exception.Outcome.TheVariants as outcome
-use Rattle.mips_exec.specs.Step.{Step, Retired, outcome_of, write_after}
+use Rattle.mips_exec.specs.Step.{Step, Retired, Called, Trapped, outcome_of, write_after}
 use Rattle.env_frames.specs.declared.mapping.Mapping.{Mapping}
 use Rattle.external_event.specs.declared.event.Occurrence.{Occurrence}
 use Rattle.guest_memory.specs.Look.{frames_after}
@@ -20,7 +20,9 @@ use Rattle.world_model.specs.declared.slot.Runner.{Runner}
 use Rattle.world_model.specs.Book.{is_idle_book, running}
 use Rattle.world_model.specs.Deadlines.{takings}
 use Rattle.world_model.specs.Event.{Schedule, happen}
-use Rattle.world_model.specs.Tick.{phases_after, served, step, tick_step, timer, turn, turn_when}
+use Rattle.world_model.specs.Solo.{Solo, Store, store_of}
+use Rattle.world_model.specs.Step.{act_of, step_alone, store_act}
+use Rattle.world_model.specs.Tick.{act_now, phases_after, served, step, tick_step, timer, turn, turn_when}
 use Rattle.world_model.specs.World.{World, after, run_phases}
 use Rattle.run_model.specs.Run.{after_phase, next_world, world_after_ticks}
 use Rattle.run_model.proofs.Phases.{tick_in_parts}
@@ -30,10 +32,10 @@ use Rattle.board_model.specs.Shown.{Environments, Shown}
 use Rattle.board_model.specs.Showing.{solo_or_absent, world_of}
 use Rattle.board_model.specs.declared.roster.Environment.{Environment}
 use Rattle.board_model.specs.Sound.{HasRunner, SlotsAgree, IsSoundBoard}
-use Rattle.board_model.specs.Stretch.{ArePlain, AreSteady, IsAtStep, IsQuiet, IsSteady, StretchIsSteady, StretchShowsModel, machine_of, stretched}
+use Rattle.board_model.specs.Stretch.{ArePlain, AreSteady, IsAtStep, IsOwnAct, IsOwnTick, IsQuiet, IsSteady, StretchIsSteady, StretchShowsModel, machine_of, stretched}
 use Rattle.board_model.proofs.Phases.{quiet_world}
 use Rattle.board_model.proofs.Repossessing.{nothing_due}
-use Rattle.board_model.proofs.Seen.{runner_runs}
+use Rattle.board_model.proofs.Seen.{its_step, runner_runs, runner_seen, runner_solo}
 use Rattle.board_model.proofs.Stepping.{retired_step}
 use Rattle.board_model.proofs.Staying.{sound_frames, sound_machine, sound_slots, sound_tlb}
 
@@ -113,6 +115,25 @@ stepped b e sound runs retired =
     let it = retires (step_seen b e) retired in
     retired_step b e x.0 x.1 sound b.slots.runner runs it.0 it.1 it.2
 
+one_runner : (e i : ℕ) → Some e ≡ Some i → e ≡ i
+one_runner e i same = cc
+
+-- what a step does that retires
+own_act : (x : Option Store) → IsOwnAct (store_act x)
+own_act x = search rules
+
+retired_act : (s : Solo) (st : Step) → outcome_of st ≡ outcome.Retired → IsOwnAct (act_of s st)
+retired_act s (Retired cpu w) is = own_act (store_of s w)
+retired_act s Called is = cc
+retired_act s (Trapped exc) is = cc
+
+acts_alone : (b : Shown) (e : ℕ) → IsSoundBoard b → running b.slots.runner ≡ Some e → outcome_of (step_seen b e) ≡ outcome.Retired → IsOwnAct (act_now (world_of b) e)
+acts_alone b e sound runs retired =
+    let x = runner_runs b e sound runs in
+    let s = runner_solo b e x.0 in
+    subst (λ (t : Solo). IsOwnAct (act_of t (step_alone t))) (sym (runner_seen b e x.0 x.1))
+    (retired_act s (step_alone s) (ap outcome_of (sym (its_step b e x.0 x.1 sound)) ∙ retired))
+
 -- the timer of a runner that has ticks left behind this one
 counts_on : (b now : Shown) (o : Option Runner) → now.slots.runner ≡ o → 1 < left_of o → with_next_time (after_count_down now o) ≡ record now { slots = after_ticks 1 now.slots; time = now.time + 1 }
 counts_on b now o is more = search (rules, ne_eqb)
@@ -170,6 +191,16 @@ module _ (serves : ServingShowsModel) (times : TimerShowsModel) where
         let at = stretch_ticks b e k schedule has (fewer_plain b e k ticks plain (omega arith)) (fewer_quiet schedule b.time k ticks quiet (omega arith)) in
         let first = at_step v e (record { sound = stretch_sound b e k has.sound (omega arith); runs = runs_on k b.slots.runner ∙ has.runs }) (none_due b.revocations (b.time + k) (omega arith)) in
         ap (λ (w : World). after_phase turn (served w)) (sym at) ∙ first ∙ at;
+    own = λ k fewer.
+        let v = stretched b e k in
+        let left = plain.left in
+        let runs = runs_on k b.slots.runner ∙ has.runs in
+        let at = stretch_ticks b e k schedule has (fewer_plain b e k ticks plain (omega arith)) (fewer_quiet schedule b.time k ticks quiet (omega arith)) in
+        let now : IsOwnTick (world_of v) = record {
+          acts = λ i is. subst (λ (n : ℕ). IsOwnAct (act_now (world_of v) n)) (one_runner e i (sym runs ∙ is)) (acts_alone v e (stretch_sound b e k has.sound (omega arith)) runs (plain.retire.each k fewer));
+          more = omega (arith, left_on k b.slots.runner);
+        } in
+        subst IsOwnTick at now;
     stays = λ k fewer.
         let at = stretch_ticks b e k schedule has (fewer_plain b e k ticks plain fewer) (fewer_quiet schedule b.time k ticks quiet fewer) in
         let steady = stretch_steady b e k in

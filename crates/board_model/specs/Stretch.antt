@@ -1,12 +1,13 @@
 -- A stretch of plain ticks: in each of them the runner's step retires, and nothing else happens.
-use Rattle.std.specs.Prelude.{◌≡◌, ◌≤◌, ◌<◌, ℕ, ◌+◌, ◌-◌, min, []}
+use Rattle.std.specs.Prelude.{◌≡◌, ◌≤◌, ◌<◌, ℕ, ◌+◌, ◌-◌, min, [], Some}
 use Rattle.guest_memory.specs.Steps.{AllRetire, Machine, after_steps}
 use Rattle.revocation_book.specs.RevocationBook.{RevocationBook, next_deadline}
 use Rattle.r3k_cp0.specs.Random.{fallen_times}
 use Rattle.slot_vector.specs.Slices.{Slices, after_ticks, left_of}
 use Rattle.world_model.specs.Book.{running}
 use Rattle.world_model.specs.Event.{Schedule}
-use Rattle.world_model.specs.Tick.{served, turn}
+use Rattle.world_model.specs.Step.{Act, Nothing, Stores}
+use Rattle.world_model.specs.Tick.{act_now, served, turn}
 use Rattle.world_model.specs.World.{World}
 use Rattle.run_model.specs.Run.{after_phase, world_after_ticks}
 use Rattle.board_model.specs.Doing.{lookup_of}
@@ -63,9 +64,21 @@ pub record IsSteady (w later : World) : Type 0 where
   pub count : later.count ≡ w.count
   pub sent : (e : ℕ) → (later.solos e).sent ≡ (w.solos e).sent
 
--- In so many ticks of a run from this board on nothing happens but steps of one environment, none of which sends.
+-- an act that calls nobody, and isn't an exception or a death
+abbrev pub IsOwnAct : Act → Type 0
+IsOwnAct Nothing = Unit {0}
+IsOwnAct (Stores x) = Unit {0}
+IsOwnAct act = ⊥
+
+-- In its next tick the runner makes such an act, and it has more ticks left than this one.
+pub record IsOwnTick (w : World) : Type 0 where
+  pub acts : (e : ℕ) → running w.book.runner ≡ Some e → IsOwnAct (act_now w e)
+  pub more : 1 < left_of w.book.runner
+
+-- In so many ticks of a run from this board on nothing happens but steps of one environment, none of which sends or calls.
 pub record AreSteady (b : Shown) (schedule : Schedule) (ticks : ℕ) : Type 0 where
   pub at_step : (k : ℕ) → k < ticks → IsAtStep (world_after_ticks schedule (world_of b) k)
+  pub own : (k : ℕ) → k < ticks → IsOwnTick (world_after_ticks schedule (world_of b) k)
   pub stays : (k : ℕ) → k ≤ ticks → IsSteady (world_of b) (world_after_ticks schedule (world_of b) k)
 
 -- So it is in plain ticks of a sound board in which nothing happens from outside.
