@@ -29,7 +29,7 @@ pub then_ticks : (schedule : Schedule) (w : World) → run_phases w (next_phases
 then_ticks schedule w = run_append w (map happen (happens_in schedule w)) (tick_phases (takings_next schedule w))
 
 -- nothing that happens takes or gives a turn
-happen_idle : (what : Occurrence) (w : World) → is_idle_book (happen what w).book ≡ is_idle_book w.book
+pub happen_idle : (what : Occurrence) (w : World) → is_idle_book (happen what w).book ≡ is_idle_book w.book
 happen_idle what w = search rules
 
 pub still_busy : (happens : List Occurrence) (w : World) → is_idle_book (world_with happens w).book ≡ is_idle_book w.book

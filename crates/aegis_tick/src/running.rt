@@ -48,6 +48,7 @@ pub fn event(board: &mut Board, event: &Event)
     requires room { TICK_ROWS ≤ board.old.ledger.spare }
     requires may { MayHappen board.old }
     ensures world { world_of board.new ≡ after (world_of board.old) (happen event.now.what (world_of board.old)) }
+    ensures idle { is_idle_book (world_of board.new).book ≡ is_idle_book (world_of board.old).book }
     ensures tlb { board.new.tlb ≡ board.old.tlb }
     ensures same { IsSameTick board.old board.new }
     ensures room { board.old.ledger.spare ≤ board.new.ledger.spare + TICK_ROWS }

@@ -1,3 +1,3 @@
-mod Telling
+pub mod Telling
 mod Acting
 mod Turned
