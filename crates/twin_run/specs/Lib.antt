@@ -3,3 +3,4 @@ pub mod Answer
 pub mod Text
 pub mod Course
 pub mod Law
+pub mod Limit

@@ -9,6 +9,9 @@ mod difference;
 mod item_text;
 mod text;
 
+/// The most slices up to whose end two runs are compared (`docs/FORMATS.md`, "Limits").
+pub const MOST_COMPARED_SLICES: u32 = 1_000_000;
+
 pub use answer::{Side, TwinAnswer};
 pub use comparison::twin;
 pub use item_text::ItemText;
