@@ -4,6 +4,7 @@ pub mod LoadSeed
 pub mod AuditLedger
 pub mod TlbImage
 pub mod TraceEnv
+pub mod TwinSystems
 pub mod RunBare
 pub mod WireMachines
 pub mod Pairs

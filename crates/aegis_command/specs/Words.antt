@@ -8,13 +8,14 @@ use Rattle.commands.specs.Command.{CommandValue, of_one_name}
 use Rattle.commands.specs.ListElf.{list_elf}
 use Rattle.commands.specs.MakeImage.{make_image}
 use Rattle.aegis_command.specs.declared.words.Words.{Words}
-use Rattle.aegis_command.specs.declared.words.Words.TheVariants.{RunImage, Asm, ListElf, MakeImage, LoadSeed, AuditLedger, TraceEnv, RunBare, WireMachines, TlbImage}
+use Rattle.aegis_command.specs.declared.words.Words.TheVariants.{RunImage, Asm, ListElf, MakeImage, LoadSeed, AuditLedger, TraceEnv, RunBare, WireMachines, TlbImage, TwinSystems}
 use Rattle.aegis_command.specs.AuditLedger.{audit_ledger, audit_words}
 use Rattle.aegis_command.specs.LoadSeed.{load_seed, load_words}
 use Rattle.aegis_command.specs.RunBare.{bare_words, run_bare}
 use Rattle.aegis_command.specs.RunImage.{run_image, run_words}
 use Rattle.aegis_command.specs.TlbImage.{tlb_image, tlb_words}
 use Rattle.aegis_command.specs.TraceEnv.{trace_env, trace_words}
+use Rattle.aegis_command.specs.TwinSystems.{twin_systems, twin_words}
 use Rattle.aegis_command.specs.WireMachines.{wire_machines, wire_words}
 
 -- the command of these words, if they are one's: its own word first, and then those that it asks for
@@ -30,7 +31,8 @@ command_of (word ∷ words) =
     if bytes_eq word (codes "trace") then trace_words words else
     if bytes_eq word (codes "bare") then bare_words words else
     if bytes_eq word (codes "wire") then wire_words words else
-    if bytes_eq word (codes "tlb") then tlb_words words else None
+    if bytes_eq word (codes "tlb") then tlb_words words else
+    if bytes_eq word (codes "twin") then twin_words words else None
 
 -- the command of the words after the program's name, if they are one's
 abbrev pub asked_by : List (String Global) → Option CommandValue
@@ -48,3 +50,6 @@ command_seen (TraceEnv c) = trace_env c.image.now c.schedule.now c.ticks.number 
 command_seen (RunBare c) = run_bare c.file.now c.ticks.number c.period.number
 command_seen (WireMachines c) = wire_machines (map string_bytes c.files.now) c.delay.ticks c.ticks.number
 command_seen (TlbImage c) = tlb_image c.image.now c.schedule.now c.ticks.number
+command_seen (TwinSystems c) =
+    twin_systems (record { image = c.left.image.now; schedule = c.left.schedule.now })
+    (record { image = c.right.image.now; schedule = c.right.schedule.now }) c.env c.slice.number

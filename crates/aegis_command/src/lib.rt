@@ -16,6 +16,7 @@ mod tlb_image;
 mod top;
 mod trace_env;
 mod traced_ticks;
+mod twin_systems;
 mod wire_machines;
 mod words;
 

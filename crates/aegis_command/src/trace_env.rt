@@ -26,7 +26,7 @@ pub struct TraceEnv<'a> {
 }
 
 /// The number of an environment that a word gives, if it is one: below `ENVIRONMENT_NUMBERS`.
-fn parse_env(word: &str) -> Option<u8>
+pub(crate) fn parse_env(word: &str) -> Option<u8>
     ensures { result ≡ env_of word.now }
 {
     let env = decimal(word.as_bytes())?;

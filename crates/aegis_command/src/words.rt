@@ -13,6 +13,7 @@ use crate::run_bare::RunBare;
 use crate::run_image::RunImage;
 use crate::tlb_image::TlbImage;
 use crate::trace_env::TraceEnv;
+use crate::twin_systems::TwinSystems;
 use crate::wire_machines::WireMachines;
 use commands::{Answer, Asm, ListElf, MakeImage, Stop, perform};
 use edge_io::Shelf;
@@ -41,6 +42,8 @@ pub enum Words<'a> {
     WireMachines(WireMachines<'a>),
     /// `tlb IMAGE SCHEDULE TICKS`.
     TlbImage(TlbImage<'a>),
+    /// `twin IMAGE SCHEDULE IMAGE SCHEDULE ENV N`.
+    TwinSystems(TwinSystems<'a>),
 }
 
 /// The one word that there is.
@@ -94,6 +97,9 @@ pub fn parse(words: &[String]) -> Option<Words<'_>>
     if word == "tlb" {
         return Some(Words::TlbImage(TlbImage::parse(rest)?));
     }
+    if word == "twin" {
+        return Some(Words::TwinSystems(TwinSystems::parse(rest)?));
+    }
     None
 }
 
@@ -119,5 +125,6 @@ pub fn perform_words<S: Shelf>(
         Words::RunBare(command) => perform(alloc, &command, shelf),
         Words::WireMachines(command) => perform(alloc, &command, shelf),
         Words::TlbImage(command) => perform(alloc, &command, shelf),
+        Words::TwinSystems(command) => perform(alloc, &command, shelf),
     }
 }

@@ -6,7 +6,7 @@ use Rattle.item_views.specs.Views.{AreWords, ItemSeen, item_seen}
 use Rattle.world_model.specs.Item.{Item}
 use Rattle.feed_telling.specs.Tell.{AreFit, AreTold}
 
-both_fit : (xs ys : List Item) → AreFit xs → AreFit ys → AreFit (xs ++ ys)
+pub both_fit : (xs ys : List Item) → AreFit xs → AreFit ys → AreFit (xs ++ ys)
 both_fit [] ys first second = second
 both_fit (x ∷ xs) ys first second = (first.0, both_fit xs ys first.1 second)
 

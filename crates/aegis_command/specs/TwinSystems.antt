@@ -1,0 +1,68 @@
+-- `twin IMAGE SCHEDULE IMAGE SCHEDULE ENV N`: two runs compared by what one environment is given in them.
+use Rattle.std.specs.Prelude.{ℕ, List, [], ◌∷◌, Option, Some, None, option_map, ◌&&◌, nat_le, if◌then◌else◌}
+use Rattle.std.specs.Option.{option_and_then}
+use Rattle.aegis_limits.specs.Limits.{most_ticks}
+use Rattle.line_text.specs.Number.{digits_number}
+use Rattle.boot_image.specs.ImageFaults.{image_fault}
+use Rattle.boot_image.specs.ImageValue.{image_of}
+use Rattle.boot_schedule.specs.Schedule.{events_of, schedule_fault}
+use Rattle.world_model.specs.Event.{schedule_of}
+use Rattle.run_model.specs.Run.{System}
+use Rattle.twin_run.specs.declared.answer.TwinAnswer.{TwinAnswer}
+use Rattle.twin_run.specs.Answer.{twin_answer}
+use Rattle.twin_run.specs.Law.{is_same}
+use Rattle.twin_run.specs.Limit.{most_compared_slices}
+use Rattle.twin_run.specs.Text.{twin_text}
+use Rattle.commands.specs.Command.{CommandValue, content, no_further}
+use Rattle.commands.specs.Due.{Due, Found, Whole, unless_refused}
+use Rattle.aegis_command.specs.RunImage.{image_refused, schedule_refused}
+use Rattle.aegis_command.specs.TraceEnv.{env_of}
+
+-- N: one to ten decimal digits, from 1 to the limit of a comparison
+abbrev pub as_slice : Option ℕ → Option ℕ
+as_slice None = None
+as_slice (Some n) = if nat_le 1 n && nat_le n most_compared_slices then Some n else None
+
+abbrev pub slice_of : List ℕ → Option ℕ
+slice_of word = as_slice (digits_number 10 10 word)
+
+-- the names of a system's files
+pub record SystemNames : Type 0 where
+  pub image : List ℕ
+  pub schedule : List ℕ
+
+-- the system that two files are
+abbrev pub system_of : (image schedule : List ℕ) → System
+system_of image schedule = record { image = image_of image; schedule = schedule_of (events_of schedule) }
+
+-- an answer is found something, unless it is that both are the same
+abbrev pub answer_due : ℕ → TwinAnswer → Due
+answer_due e answer = if is_same answer then Whole (twin_text e answer) else Found (twin_text e answer)
+
+-- the answer on two systems, each of at most so many ticks as a run may have
+abbrev pub answer_on : (left right : System) → ℕ → ℕ → Due
+answer_on left right e n = answer_due e (twin_answer left right e n most_ticks)
+
+-- the first file with a fault is refused, and if none has one, the answer is due
+abbrev pub twin_due : (left right : SystemNames) → ℕ → ℕ → (image schedule other other_schedule : List ℕ) → Due
+twin_due left right e n image schedule other other_schedule =
+    unless_refused (image_refused left.image (image_fault image)
+    ∷ schedule_refused left.schedule (schedule_fault schedule)
+    ∷ image_refused right.image (image_fault other)
+    ∷ schedule_refused right.schedule (schedule_fault other_schedule) ∷ [])
+    (answer_on (system_of image schedule) (system_of other other_schedule) e n)
+
+abbrev pub twin_systems : (left right : SystemNames) → ℕ → ℕ → CommandValue
+twin_systems left right e n = record {
+  names = left.image ∷ left.schedule ∷ right.image ∷ right.schedule ∷ [];
+  further = no_further;
+  due = λ contents. Some (twin_due left right e n (content contents 0) (content contents 1) (content contents 2)
+      (content contents 3));
+}
+
+-- the words behind `twin`
+abbrev pub twin_words : List (List ℕ) → Option CommandValue
+twin_words (image ∷ schedule ∷ other ∷ other_schedule ∷ env ∷ slice ∷ []) =
+    option_and_then (λ e. option_map (twin_systems (record { image = image; schedule = schedule })
+    (record { image = other; schedule = other_schedule }) e) (slice_of slice)) (env_of env)
+twin_words words = None

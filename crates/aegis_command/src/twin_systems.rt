@@ -1,0 +1,188 @@
+//! The command `twin IMAGE SCHEDULE IMAGE SCHEDULE ENV N`.
+ghost use Rattle.std.specs.Prelude.{◌≡◌, ◌≤◌, ◌<◌, ◌^◌, IfOk, length, map, option_map, string_bytes, true};
+ghost use Rattle.commands.specs.Work.{Settles};
+ghost use Rattle.external_event.specs.Order.{are_in_order};
+ghost use Rattle.world_model.specs.Event.{schedule_of};
+ghost use Rattle.twin_run.specs.Limit.{most_compared_slices};
+ghost use Rattle.aegis_command.specs.TwinSystems.{answer_due, answer_on, slice_of, twin_due, twin_systems, twin_words};
+
+use crate::system_files::{SystemFiles, read_system};
+use crate::trace_env::parse_env;
+use aegis_limits::OutOfMemory;
+use boot_image::Image;
+use commands::{Answer, Command, Status, content};
+use external_event::Event;
+use feed_run::BoardRun;
+use line_text::decimal;
+use std::alloc::Global;
+use twin_run::{MOST_COMPARED_SLICES, TwinAnswer, twin, twin_text};
+
+/// The slice up to whose end two runs are compared, by its number.
+#[derive(Clone, Copy)]
+pub struct LastSlice {
+    /// From 1 to `MOST_COMPARED_SLICES`.
+    pub number: u32,
+    ghost within: { number ≤ most_compared_slices },
+}
+
+impl LastSlice {
+    /// The slice that a word gives, if it is the number of one.
+    pub fn parse(word: &str) -> Option<LastSlice>
+        ensures { option_map (λ slice. slice.number) result ≡ slice_of word.now }
+    {
+        let number = decimal(word.as_bytes())?;
+        if 1 <= number && number <= MOST_COMPARED_SLICES {
+            Some(LastSlice { number })
+        } else {
+            None
+        }
+    }
+}
+
+/// The names of a system's files.
+#[derive(Clone, Copy)]
+pub struct SystemNames<'a> {
+    /// The name of the image.
+    pub image: &'a str,
+    /// The name of the schedule.
+    pub schedule: &'a str,
+}
+
+/// `twin IMAGE SCHEDULE IMAGE SCHEDULE ENV N`: two runs compared by what an environment is given in them up to the end of
+/// its slice N.
+#[derive(Clone, Copy)]
+pub struct TwinSystems<'a> {
+    /// The left system.
+    pub left: SystemNames<'a>,
+    /// The right one.
+    pub right: SystemNames<'a>,
+    /// The number of the environment, which the images may lack.
+    pub env: u8,
+    /// The slice up to whose end it is compared.
+    pub slice: LastSlice,
+}
+
+impl<'a> TwinSystems<'a> {
+    /// The comparison that the words behind `twin` ask for, if they are one's.
+    pub fn parse(words: &'a [String]) -> Option<TwinSystems<'a>>
+        ensures { option_map (λ c. twin_systems (record { image = c.left.image.now; schedule = c.left.schedule.now }) (record { image = c.right.image.now; schedule = c.right.schedule.now }) c.env c.slice.number) result ≡ twin_words (map string_bytes words.now) }
+    {
+        let [image, schedule, other, other_schedule, env, slice] = words else {
+            return None;
+        };
+        let env = parse_env(env.as_str())?;
+        let slice = LastSlice::parse(slice.as_str())?;
+        Some(TwinSystems {
+            left: SystemNames {
+                image: image.as_str(),
+                schedule: schedule.as_str(),
+            },
+            right: SystemNames {
+                image: other.as_str(),
+                schedule: other_schedule.as_str(),
+            },
+            env,
+            slice,
+        })
+    }
+}
+
+/// The answer of a comparison. It has found something, unless both are the same.
+fn settle(alloc: Global, env: u8, answer: &TwinAnswer) -> Result<Answer, OutOfMemory>
+    ensures { IfOk result (Settles (answer_due env answer.now)) }
+{
+    let status = match answer {
+        TwinAnswer::Same { .. } => Status::Done,
+        TwinAnswer::FeedsDiffer { .. } | TwinAnswer::NotReached { .. } => Status::Found,
+    };
+    Ok(Answer {
+        text: twin_text(alloc, env, answer)?,
+        status,
+    })
+}
+
+/// The answer on two systems of images and events.
+fn answer<'i, 'b, 'e>(
+    alloc: Global,
+    call: TwinSystems<'_>,
+    left: &'i Image<'b>,
+    left_events: &'e [Event],
+    right: &'i Image<'b>,
+    right_events: &'e [Event],
+) -> Result<Answer, OutOfMemory>
+    requires left { are_in_order 0 left_events.now ≡ true }
+    requires right { are_in_order 0 right_events.now ≡ true }
+    ensures { IfOk result (Settles (answer_on (record { image = left.now; schedule = schedule_of left_events.now }) (record { image = right.now; schedule = schedule_of right_events.now }) call.entry.env call.entry.slice.number)) }
+{
+    let mut left_run = BoardRun::boot(alloc, left, left_events, call.env)?;
+    let mut right_run = BoardRun::boot(alloc, right, right_events, call.env)?;
+    let answer = twin(
+        alloc,
+        &mut left_run,
+        &mut right_run,
+        call.env,
+        call.slice.number,
+    )?;
+    settle(alloc, call.env, &answer)
+}
+
+/// What is due for a comparison of these files: the first fault, or the answer.
+fn due<'b>(
+    alloc: Global,
+    call: TwinSystems<'_>,
+    image: &'b [u8],
+    schedule: &[u8],
+    other: &'b [u8],
+    other_schedule: &[u8],
+) -> Result<Answer, OutOfMemory>
+    requires image { length image.now < 2 ^ 27 }
+    requires schedule { length schedule.now < 2 ^ 27 }
+    requires other { length other.now < 2 ^ 27 }
+    requires other_schedule { length other_schedule.now < 2 ^ 27 }
+    ensures { IfOk result (Settles (twin_due (record { image = call.entry.left.image.now; schedule = call.entry.left.schedule.now }) (record { image = call.entry.right.image.now; schedule = call.entry.right.schedule.now }) call.entry.env call.entry.slice.number image.now schedule.now other.now other_schedule.now)) }
+{
+    let TwinSystems { left, right, .. } = call;
+    let (left, left_events) = match read_system(
+        alloc,
+        left.image,
+        left.schedule,
+        image,
+        schedule,
+    )? {
+        SystemFiles::Refused(answer) => return Ok(answer),
+        SystemFiles::Sound(image, events) => (image, events),
+    };
+    match read_system(alloc, right.image, right.schedule, other, other_schedule)? {
+        SystemFiles::Refused(answer) => Ok(answer),
+        SystemFiles::Sound(right, right_events) => {
+            answer(alloc, call, &left, &left_events, &right, &right_events)
+        }
+    }
+}
+
+impl Command for TwinSystems<'_> {
+    ghost value = { λ command. twin_systems (record { image = command.left.image.now; schedule = command.left.schedule.now }) (record { image = command.right.image.now; schedule = command.right.schedule.now }) command.env command.slice.number };
+
+    fn names(&self, alloc: Global) -> Result<Vec<String>, OutOfMemory> {
+        let left_image = String::from_str(alloc, self.left.image)?;
+        let left_schedule = String::from_str(alloc, self.left.schedule)?;
+        let right_image = String::from_str(alloc, self.right.image)?;
+        let right_schedule = String::from_str(alloc, self.right.schedule)?;
+        Ok(vec![in alloc; left_image, left_schedule, right_image, right_schedule]?)
+    }
+
+    fn further(&self, alloc: Global, _contents: &[Vec<u8>]) -> Result<Vec<String>, OutOfMemory> {
+        Ok(Vec::new(alloc))
+    }
+
+    fn answer(&self, alloc: Global, contents: &[Vec<u8>]) -> Result<Answer, OutOfMemory> {
+        due(
+            alloc,
+            *self,
+            content(contents, 0),
+            content(contents, 1),
+            content(contents, 2),
+            content(contents, 3),
+        )
+    }
+}

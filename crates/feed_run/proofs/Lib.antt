@@ -1,0 +1,7 @@
+mod Joined
+mod Takable
+mod Unread
+mod Ticked
+mod Passing
+mod OwnTick
+mod Plain

@@ -1,0 +1,74 @@
+//! The ticks of a run that is told.
+ghost use Rattle.std.specs.Prelude.{◌≡◌, ◌<◌, ◌||◌, ◌&&◌, not, if◌then◌else◌, IfOk, OnOk, false};
+ghost use Rattle.aegis_limits.specs.Limits.{most_ticks};
+ghost use Rattle.world_model.specs.Book.{is_idle_book, is_runner};
+ghost use Rattle.board_model.specs.Showing.{world_of};
+
+use crate::phases::tell_tick;
+use crate::run::BoardRun;
+use aegis_limits::{MOST_TICKS, OutOfMemory};
+use aegis_tick::{due_and_later, quiet_ticks};
+use run_model::law_time;
+use tlb_course::law_further;
+use world_model::WorldView;
+
+/// Whether a slice ended in a tick, by whether its environment ran before it, began one in it, and runs behind it.
+fn slice_ended(ran: bool, begins: bool, runs: bool) -> bool
+    ensures { result ≡ (ran || begins) && not runs }
+{
+    (ran || begins) && !runs
+}
+
+/// 1 where it holds.
+fn one_if(holds: bool) -> u32
+    ensures { result ≡ (if holds then 1 else 0) }
+{
+    u32::from(holds)
+}
+
+impl BoardRun<'_, '_, '_> {
+    ghost use Rattle.feed_run.specs.Whole.{IsWholeRun, WentATick, WentPlain, progress_of};
+
+    /// Whether the environment runs.
+    fn is_running(&self) -> bool
+        ensures { result ≡ is_runner self.now.watched (world_of self.now.board).book.runner }
+    {
+        self.board.runner() == Some(self.watched)
+    }
+
+    /// Makes the next tick, told phase by phase. The result is whether a slice of the environment ended in it.
+    pub(crate) fn make_tick(&mut self) -> Result<bool, OutOfMemory>
+        requires whole { IsWholeRun self.old }
+        requires busy { is_idle_book (world_of self.old.board).book ≡ false }
+        requires time { self.old.board.time < most_ticks }
+        ensures went { IfOk result (WentATick (progress_of self.old) (progress_of self.new)) }
+        ensures whole { OnOk result (IsWholeRun self.new) }
+    {
+        let ran = self.is_running();
+        let (now, later) = due_and_later(self.coming, self.board.time());
+        tell_tick(&mut self.board, &mut self.tick, self.watched, now)?;
+        self.coming = later;
+        let begins = self.log.receive(&mut self.tick)?;
+        self.tick.clear();
+        let has_ended = slice_ended(ran, begins, self.is_running());
+        self.ended += one_if(has_ended);
+        Ok(has_ended)
+    }
+
+    /// Makes plain ticks of the environment in which nothing happens but its steps, as long as it runs, and tells these.
+    pub(crate) fn make_plain_ticks(&mut self) -> Result<(), OutOfMemory>
+        requires { IsWholeRun self.old }
+        ensures went { OnOk result (WentPlain (progress_of self.old) (progress_of self.new)) }
+        ensures whole { OnOk result (IsWholeRun self.new) }
+    {
+        law_time();
+        law_further();
+        if !self.is_running() {
+            return Ok(());
+        }
+        let time = self.board.time();
+        let quiet = quiet_ticks(self.coming, time, MOST_TICKS - time);
+        let steps = self.board.stretch(quiet);
+        self.log.push_steps(steps)
+    }
+}
