@@ -1,13 +1,14 @@
 """All that the kernel keeps, and what is done to it: docs/KERNEL.md.
 
 What calls refuse is in calls.py, and when things are done is in ticks.py. `seen` counts what happened for the test of this
-case, and nothing is decided by it.
+case, and `feeds` has what each environment is given (docs/MODEL.md, "An environment alone"), where that is kept; nothing is
+decided by them.
 """
 from __future__ import annotations
 
 import struct
 from collections import Counter
-from typing import List, Optional, Tuple, Union
+from typing import Iterator, List, Optional, Tuple, Union
 
 from cache import FORWARDED, GUARANTEED, STRIPE, Cache, Refill, hi_word, lo_word
 from files import PAGE, VERSIONS, Image, Program
@@ -26,6 +27,9 @@ POST_OUTSTANDING, POST_DEADLINE, POST_TAKINGS, RECORDS = 0x14C, 0x150, 0x17C, 0x
 MOST_RECORDS, NO_BACKUP, MOST_OUTSTANDING = 64, 0xFFFFFFFF, 0xFFFFFFFF
 BUFFER_SIZE = 0x800  # of which a ring page has two
 MOST_SENT = 256  # packets that an environment sends
+
+# What an environment is given: the name of its kind, its numbers, and its bytes if it has some.
+Item = Tuple[Union[str, int, bytes, None], ...]
 
 
 class Page:
@@ -72,6 +76,9 @@ class Env:
         binding = self.bindings.get(self.row_of(vpn))
         return binding[1:] if binding and binding[0] == vpn else None
 
+    def has_bound(self, page: int) -> bool:
+        return any(it[1] == page for it in self.bindings.values())
+
     def accepts(self, other: Env) -> bool:
         return bool(self.mask >> other.number & 1)
 
@@ -110,6 +117,7 @@ class Memory:
     def store(self, va: int, place: int, data: bytes) -> None:
         page = self.reach(va, True)
         self.board.pages[page].data[place % PAGE : place % PAGE + len(data)] = data
+        self.board.leave(self.env, page, place % PAGE, data)
         if any(claim.env is not self.env for claim in self.board.claims_on(page)):
             self.board.seen["stores into another's ring"] += 1
 
@@ -119,9 +127,10 @@ def word_of(data: Union[bytes, bytearray], place: int) -> int:
 
 
 class Board:
-    """The kernel. A slot is None or (owner, holder); `slot` is the cursor, and the slot of who runs."""
+    """The kernel. A slot is None or (owner, holder); `slot` is the cursor, and the slot of who runs. `feeds` has, if they are kept,
+    the items that each environment was given, in order."""
 
-    def __init__(self, image: Image):
+    def __init__(self, image: Image, keeps_feeds: bool = False):
         self.version, self.quantum, self.time, self.rows, self.seen = image.version, image.quantum, 0, [], Counter()
         self.pages = [Page() for _ in range(image.pages)]
         self.slots = [None if owner is None else (owner, owner) for owner in image.slots]
@@ -129,6 +138,7 @@ class Board:
         self.lines, self.claims, self.next_claim = [None] * LINES, {}, 0
         self.taken = {}  # by page that was taken in this tick, from whom
         self.envs, self.cache = [], Cache(len(image.programs))
+        self.feeds = [[] for _ in image.programs] if keeps_feeds else None
         for program in image.programs:
             self.add(program)
         for slot, hold in enumerate(self.slots):
@@ -149,12 +159,49 @@ class Board:
                 first, end = max(it.address, vpn * PAGE), min(it.address + len(it.data), (vpn + 1) * PAGE)
                 if first < end:
                     page.data[first % PAGE : first % PAGE + end - first] = it.data[first - it.address : end - it.address]
+        self.give(env, "boot", self.version, self.record(env))
 
     def row(self, name: str, *words: Union[int, str]) -> None:
         self.rows.append(" ".join(map(str, (name, self.time, *words))))
 
     def is_idle(self) -> bool:
         return self.runner is None and not any(self.slots)
+
+    # What environments are given
+
+    def give(self, env: Env, *item: Union[str, int, bytes, None], place: Optional[int] = None) -> None:
+        """An environment is given an item, behind all others or at a place of its feed."""
+        if self.feeds is not None:
+            feed = self.feeds[env.number]
+            feed.insert(len(feed) if place is None else place, item)
+
+    def place_of_next(self, env: Env) -> int:
+        """The place of the item that an environment is given next."""
+        return 0 if self.feeds is None else len(self.feeds[env.number])
+
+    def record(self, env: Env) -> bytes:
+        """An environment's record in the image: number, name, entry, mask, and each guaranteed page with its VPN and mode."""
+        head = struct.pack("<B8sII", env.number, env.name.encode(), env.cpu.pc, env.mask)
+        pages = (struct.pack("<II", vpn, is_writable) + self.pages[page].data for vpn, (page, is_writable) in sorted(env.guaranteed.items()))
+        return head + b"".join(pages)
+
+    def sharers(self, number: int, but: Env) -> Iterator[Env]:
+        """Who has a page bound, but one environment."""
+        return (env for env in self.envs if env is not but and env.has_bound(number))
+
+    def leave(self, writer: Env, number: int, place: int, data: Union[bytes, bytearray]) -> None:
+        """Bytes that were stored in a page are left to each other environment that owns it or has it bound."""
+        page = self.pages[number]
+        if self.feeds is None or page.is_guaranteed:
+            return
+        for env in self.envs:
+            if env is not writer and (env is page.owner or env.has_bound(number)):
+                self.give(env, "left", number, place, bytes(data))
+
+    def take_from_sharers(self, number: int, owner: Env) -> None:
+        """Whoever has a page bound but its owner loses it."""
+        for env in self.sharers(number, owner):
+            self.give(env, "lost", number)
 
     # Slots and slices
 
@@ -174,6 +221,7 @@ class Board:
 
     def start(self, env: Env) -> None:
         """A slice of the environment starts."""
+        self.give(env, "start")
         self.runner = env
         env.cpu.rest()
         if env.handlers[STARTS]:
@@ -181,6 +229,7 @@ class Board:
 
     def tell_end(self, env: Env) -> None:
         """Its slice is over."""
+        self.give(env, "end")
         cause = env.cpu.cause()
         env.cpu.rest()
         self.upcall(env, ENDS, END_AREA, cause)
@@ -194,6 +243,7 @@ class Board:
 
     def enter(self, env: Env, caller: Env, kind: int) -> None:
         """A transfer enters an environment with the caller's registers."""
+        self.give(env, "transfer", caller.number, kind, struct.pack("<33I", *caller.cpu.regs[1:], caller.cpu.hi, caller.cpu.lo))
         env.cpu.rest()
         self.set_context(env, ENTRY_AREA, *env.cpu.regs[1:], env.cpu.hi, env.cpu.lo, env.cpu.pc, caller.number, kind)
         env.cpu.take_registers(caller.cpu)
@@ -256,12 +306,14 @@ class Board:
         page = self.pages[number]
         page.owner, page.read, page.write = env, read, write
         page.data[:] = bytes(PAGE)
+        self.give(env, "gained", number, 1, bytes(PAGE))
         if number in self.taken:
             self.seen["pages allocated in the tick of their taking" + (" again" if self.taken[number] is env else "")] += 1
 
     def give_back(self, env: Env, number: int) -> None:
         """An environment frees a page of its own: it is one fewer that is outstanding."""
         self.seen["backups that are freed"] += number in env.backups
+        self.give(env, "lost", number)
         self.free(number)
         if env.outstanding:
             env.outstanding -= 1
@@ -275,6 +327,7 @@ class Board:
             self.seen[f"backups that end with {cause}"] += 1
         self.pages[number].release()
         self.empty_page(number, owner, cause)
+        self.take_from_sharers(number, owner)
         self.break_bindings(number)
         for claim in self.claims_on(number):
             self.withdraw(claim, cause)
@@ -284,6 +337,7 @@ class Board:
         page = self.pages[number]
         page.read, page.write = read, write
         self.empty_page(number, page.owner, "a recap")
+        self.take_from_sharers(number, page.owner)
         self.break_bindings(number, but=page.owner)
         self.seen["rings that have other words"] += bool(self.claims_on(number))
 
@@ -294,6 +348,8 @@ class Board:
         if replaced:
             self.count_emptied("a bind in its row", self.cache.drop_pair(replaced[0], env.number))
         env.bindings[env.row_of(vpn)] = vpn, page, is_writable
+        if self.feeds is not None:
+            self.give(env, "gained", page, int(is_writable), bytes(self.pages[page].data))
 
     def unbind(self, env: Env, vpn: int) -> None:
         self.count_emptied("an unbind", self.cache.drop_pair(vpn, env.number))
@@ -334,6 +390,7 @@ class Board:
         self.seen["revocations that come upon another"] += env.outstanding > 0
         self.seen["deadlines that come earlier"] += env.outstanding > 0 and self.time + grace < env.deadline
         env.outstanding, env.deadline = outstanding, self.time + grace
+        self.give(env, "asked", outstanding, env.deadline)
         self.set_context(env, POST_OUTSTANDING, outstanding, env.deadline)
         self.row("asked", number, outstanding, env.deadline)
         self.seen["revocations due in their tick"] += grace == 0
@@ -388,8 +445,10 @@ class Board:
         """A page is taken: its bytes go to the first backup, it is recorded, and then it is free."""
         self.count_taking(env, number)
         backup = env.backups.pop(0) if env.backups else None
+        self.give(env, "taken", number, backup)
         if backup is not None:
             self.pages[backup].data[:] = self.pages[number].data
+            self.leave(env, backup, 0, self.pages[backup].data)
         place = word_of(self.context(env), POST_TAKINGS)
         if place < MOST_RECORDS:
             self.set_context(env, RECORDS + 8 * place, number, NO_BACKUP if backup is None else backup)
@@ -400,18 +459,15 @@ class Board:
 
     def count_taking(self, env: Env, number: int) -> None:
         """Counts what kind of a taking comes."""
-        def sharers(page: int) -> List[Env]:
-            return [other for other in self.envs if any(it[1] == page for it in other.bindings.values())]
-
         self.seen["pages taken " + ("with a copy" if env.backups else "without a copy")] += 1
-        self.seen["pages taken that their owner has bound"] += env in sharers(number)
-        self.seen["pages taken that others have bound"] += any(other is not env for other in sharers(number))
+        self.seen["pages taken that their owner has bound"] += env.has_bound(number)
+        self.seen["pages taken that others have bound"] += any(self.sharers(number, env))
         self.seen["rings taken"] += bool(self.claims_on(number))
         self.seen["pages taken from the runner"] += env is self.runner
         self.seen["pages taken that hold bytes"] += any(self.pages[number].data)
         self.seen["takings behind the last record"] += word_of(self.context(env), POST_TAKINGS) >= MOST_RECORDS
         if env.backups:
-            self.seen["copies that others see"] += any(other is not env for other in sharers(env.backups[0]))
+            self.seen["copies that others see"] += any(self.sharers(env.backups[0], env))
             self.seen["copies into rings"] += bool(self.claims_on(env.backups[0]))
             self.seen["copies over other bytes"] += self.pages[env.backups[0]].data != self.pages[number].data
 
@@ -442,6 +498,7 @@ class Board:
             self.row("drop", len(packet))
             self.seen["packets dropped"] += 1
             return
+        self.give(claim.env, "packet", claim.number, packet)
         self.count_up(claim.env, POST_PACKETS)
         if claim.handler:
             self.hand_over(claim, packet)
@@ -450,7 +507,7 @@ class Board:
 
     def is_shared(self, claim: Claim) -> bool:
         """Whether others see the page of a claim."""
-        return any(it[1] == claim.page for env in self.envs if env is not claim.env for it in env.bindings.values())
+        return any(self.sharers(claim.page, claim.env))
 
     def deliver(self, claim: Claim, packet: bytes) -> None:
         """A packet goes into the buffer whose turn it is, or is lost if that is full."""
@@ -461,6 +518,7 @@ class Board:
             self.seen["packets lost beside an empty buffer"] += not word_of(page, BUFFER_SIZE - buffer)
             return
         page[buffer : buffer + 4 + len(packet)] = struct.pack("<I", len(packet)) + packet
+        self.leave(claim.env, claim.page, 0, page)
         claim.deliveries += 1
         self.seen["packets delivered"] += 1
         self.seen["delivered", len(packet)] += 1
@@ -469,6 +527,7 @@ class Board:
     def hand_over(self, claim: Claim, packet: bytes) -> None:
         """The handler runs over a packet and the ring page, and its replies are sent as far as there is room."""
         run = Run(claim.handler, packet, claim.number, self.pages[claim.page].data)
+        self.leave(claim.env, claim.page, 0, self.pages[claim.page].data)
         room = MOST_SENT - len(claim.env.sent)
         claim.env.sent += run.replies[:room]
         self.seen["packets that handlers take"] += 1
@@ -486,6 +545,7 @@ class Board:
         env = self.lines[line]
         self.seen["lines to nobody" if env is None else "lines delivered"] += 1
         if env:
+            self.give(env, "line", line)
             self.set_context(env, POST_LINES, word_of(self.context(env), POST_LINES) | 1 << line)
 
 

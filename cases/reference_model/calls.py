@@ -275,13 +275,14 @@ def make_call(board: Board, env: Env) -> None:
     if number == EXIT:
         board.die(env, f"exit {arguments[0]}")
         return
-    code = 0
+    code, place = 0, board.place_of_next(env)
     try:
         refuse_if(number not in CALLS, BAD_CALL)
         value = CALLS[number](board, env, *arguments)
     except Refused as why:
         code, value = why.code, why.value
     board.seen[number, code] += 1
+    board.give(env, "answer", code, value, place=place)
     env.cpu.set(2, code)
     env.cpu.set(3, value)
     env.cpu.continue_at(env.cpu.pc + 4)

@@ -77,6 +77,7 @@ def take_turn(board: Board) -> None:
 
 def make_step(board: Board, env: Env) -> None:
     """The step is attempted from its fetch on until it misses no row of a mapping."""
+    board.give(env, "step")
     pc, in_slot, refills = env.cpu.pc, env.cpu.slot, []
     while True:
         end = attempt(board, env)
@@ -131,4 +132,5 @@ def count(board: Board) -> None:
     env.excess += 1
     board.row("over", board.slot, env.number, env.excess)
     if env.excess > MOST_EXCESS:
+        board.give(env, "killed")
         board.die(env, "dead excess")
