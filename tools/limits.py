@@ -14,6 +14,7 @@ MOST_STACK_PAGES = 16
 CONSOLE_SIZE = 65_536  # bytes
 MOST_TICKS = 4_194_304
 MOST_TRACED_TICKS = 262_144  # of a run of which a trace is written
+MOST_COMPARED_SLICES = 1_000_000  # of an environment of which two runs are compared
 LEAST_FRAME_SIZE, MOST_PACKET_SIZE = 14, 1_514  # bytes that are sent, and of any packet
 MOST_SENT = 256  # packets of an environment
 MOST_EVENTS = 65_536  # of a schedule

@@ -14,9 +14,11 @@ import report
 import wire
 from assembler import assemble, listed
 from files import Fault, image_of, read_elf, read_image, read_manifest
-from limits import MOST_DELAY, MOST_MACHINES, MOST_QUANTUM, LEAST_QUANTUM, MOST_TARGET, MOST_TICKS, MOST_TRACED_TICKS, MOST_WIRE_TICKS
+from limits import (LEAST_QUANTUM, MOST_COMPARED_SLICES, MOST_DELAY, MOST_MACHINES, MOST_QUANTUM, MOST_TARGET, MOST_TICKS, MOST_TRACED_TICKS,
+                    MOST_WIRE_TICKS)
 from tlb import tlb_answer
 from trace import Traces
+from twin import twin_answer
 
 DONE, USAGE, REFUSED, READ_FAULT = 0, 2, 3, 4
 Files = Dict[str, bytes]
@@ -27,6 +29,7 @@ TICKS = (0, MOST_TICKS)
 FORMS: Dict[str, Tuple] = {
     "run": (FILE, FILE, TICKS), "tlb": (FILE, FILE, TICKS), "trace": (FILE, FILE, (0, MOST_TRACED_TICKS), (0, MOST_TARGET)), "asm": (FILE,),
     "image": (FILE,), "list": (FILE,), "load": ((0, 2**32 - 1),), "bare": (FILE, TICKS, TICKS), "audit": (FILE, (LEAST_QUANTUM, MOST_QUANTUM)),
+    "twin": (FILE, FILE, FILE, FILE, (0, MOST_TARGET), (1, MOST_COMPARED_SLICES)),
 }
 WIRE = ((1, MOST_DELAY), (0, MOST_WIRE_TICKS))
 
@@ -123,8 +126,14 @@ def wired(words: Sequence[str], files: Files) -> Answer:
     return status, text.encode("latin-1")
 
 
+def twin(words: Sequence[str], files: Files) -> Answer:
+    status, text = twin_answer(named(words, files), *map(int, words[5:]))
+    return status, text.encode("latin-1")
+
+
 COMMANDS: Dict[str, Callable[[Sequence[str], Files], Answer]] = {
     "run": run, "tlb": tlb, "trace": trace, "asm": asm, "list": list_elf, "image": image, "audit": audit, "bare": bare_board, "wire": wired,
+    "twin": twin,
 }
 
 

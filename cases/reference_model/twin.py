@@ -56,10 +56,13 @@ class Side:
         return self
 
     def reach(self, number: int, slices: int) -> Side:
-        """Goes on until so many slices of an environment have ended, if they do."""
-        while self.slices(number) < slices and self.board.time < MOST_TICKS and not self.board.is_idle():
+        """Goes on until so many slices of an environment have ended, if they do. The dead, and who isn't there, have no more."""
+        while self.slices(number) < slices and self.board.time < MOST_TICKS and not self.board.is_idle() and self.lives(number):
             self.tick()
         return self
+
+    def lives(self, number: int) -> bool:
+        return number < len(self.board.envs) and self.board.envs[number].is_alive
 
     def slices(self, number: int) -> int:
         """How many slices of an environment have ended. One that isn't there has none."""

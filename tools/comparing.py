@@ -1,0 +1,108 @@
+"""Two runs of an environment compared by `aegis twin` (docs/REPORT.md, "Two runs compared"): how far it comes in each, the first item
+that differs, and in which tick it is given that.
+"""
+
+from __future__ import annotations
+
+from typing import List, NamedTuple, Optional
+
+from limits import MOST_TICKS, MOST_TRACED_TICKS
+from packets import event_tick
+from programs import USAGE, Failed, Machine, aegis, content, write
+from recording import Row
+from report import Report
+from tracing import traced
+
+SAME, FOUND = 0, 1
+NO_TWIN = "the program has no command `twin`: it is of an earlier release"
+NONE = "none"  # the item behind the last
+BEHIND_STEP = ("answer", "gained", "end", "killed")  # what is given behind the step of its tick, if the environment makes one
+PROBE = "probe.sch"
+
+
+class Difference(NamedTuple):
+    """The first place in which two feeds differ, and the items there."""
+
+    index: int
+    left: str
+    right: str
+
+
+class Side(NamedTuple):
+    """One of the runs: its machine, the folder of its files, and what tells it from the other."""
+
+    machine: Machine
+    folder: str
+    beside: str
+
+    def image(self) -> str:
+        return f"{self.folder}/try.img"
+
+    def schedule(self) -> str:
+        return f"{self.folder}/try.sch"
+
+
+class Comparison:
+    """Two runs, and the environment that is looked at."""
+
+    def __init__(self, left: Side, right: Side, env: int, room: str):
+        self.left, self.right, self.env, self.room = left, right, env, room
+        for side in (left, right):
+            if not side.machine.schedule:
+                write(f"{room}/{side.schedule()}", b"")
+
+    def said(self, left: List[str], right: List[str], slices: int) -> List[str]:
+        """The lines of `twin` on two images with their schedules."""
+        status, said = aegis("twin", *left, *right, str(self.env), str(slices), cwd=self.room)
+        if status == USAGE:
+            raise Failed(USAGE, NO_TWIN)
+        if status not in (SAME, FOUND):
+            raise Failed(status, f"`twin` ended with {status}: {said.decode(errors='replace').strip()}")
+        return said.decode("latin-1").splitlines()
+
+    def reached(self, side: Side, slices: int) -> int:
+        """To how many slices the environment comes in a run, of so many."""
+        files = [side.image(), side.schedule()]
+        words = self.said(files, files, slices)[0].split()
+        return int(words[2]) if words[0] == "short" else slices
+
+    def difference(self, slices: int) -> Optional[Difference]:
+        """The first difference up to the end of a slice to which both come, if there is one."""
+        lines = self.said(*([it.image(), it.schedule()] for it in (self.left, self.right)), slices)
+        return Difference(int(lines[0].split()[1]), *lines[1:]) if lines[0].startswith("differ") else None
+
+    def items_before(self, side: Side, tick: int, slices: int) -> Optional[int]:
+        """How many items the environment is given before a tick; none behind its end or the end of the slice. In a run in which it
+        is asked for a page in that tick, before all else, the first item that differs is this."""
+        own = content(f"{self.room}/{side.schedule()}").decode("latin-1").splitlines()
+        events = [(event_tick(line), line) for line in own if line.split("#")[0].split()]
+        asked = f"{tick} revoke {self.env} 1 {MOST_TICKS}"
+        lines = [line for at, line in events if at < tick] + [asked] + [line for at, line in events if at >= tick]
+        write(f"{self.room}/{PROBE}", "".join(f"{line}\n" for line in lines).encode("latin-1"))
+        words = self.said([side.image(), side.schedule()], [side.image(), PROBE], slices)[0].split()
+        if words[0] == "short":
+            raise Failed(FOUND, "its tick isn't known: the program does another thing where it is asked for pages")
+        return int(words[1]) if words[0] == "differ" else None
+
+    def tick_of(self, side: Side, index: int, slices: int) -> int:
+        """The tick in which the item at a place is given: the last one before which there aren't more items than stand before it."""
+        def is_reached(tick: int) -> bool:
+            """Whether the tick is this one, or one before it."""
+            count = self.items_before(side, tick, slices)
+            return count is not None and count <= index
+        behind = 1
+        while behind < MOST_TICKS and is_reached(behind):
+            behind = min(2 * behind, MOST_TICKS)
+        tick = behind // 2
+        while behind - tick > 1:
+            middle = (tick + behind) // 2
+            tick, behind = (middle, behind) if is_reached(middle) else (tick, middle)
+        return tick
+
+    def step_before(self, side: Side, item: str, tick: int, report: Report) -> Optional[Row]:
+        """The line of the trace of the step before an item that is given in a tick, if there is one."""
+        kind, *words = item.split()
+        taken = any(it.kind == "take" and it.time == tick and it.row.split()[3:4] == words[:1] for it in report.marks)
+        is_behind = kind in (*BEHIND_STEP, NONE) or kind == "lost" and not taken
+        rows = [row for row in traced(side.machine, tick + 1, self.env).rows if row.tick < tick + is_behind] if tick < MOST_TRACED_TICKS else []
+        return rows[-1] if rows else None
