@@ -29,11 +29,11 @@ class Difference(NamedTuple):
 
 
 class Side(NamedTuple):
-    """One of the runs: its machine, the folder of its files, and what tells it from the other."""
+    """One of the runs: its machine, the folder of its files, and where the environment is, in words."""
 
     machine: Machine
     folder: str
-    beside: str
+    where: str
 
     def image(self) -> str:
         return f"{self.folder}/try.img"
@@ -79,9 +79,10 @@ class Comparison:
         asked = f"{tick} revoke {self.env} 1 {MOST_TICKS}"
         lines = [line for at, line in events if at < tick] + [asked] + [line for at, line in events if at >= tick]
         write(f"{self.room}/{PROBE}", "".join(f"{line}\n" for line in lines).encode("latin-1"))
-        words = self.said([side.image(), side.schedule()], [side.image(), PROBE], slices)[0].split()
-        if words[0] == "short":
-            raise Failed(FOUND, "its tick isn't known: the program does another thing where it is asked for pages")
+        sides = [side.image(), side.schedule()], [side.image(), PROBE]
+        words = self.said(*sides, slices)[0].split()
+        if words[0] == "short":  # it comes to fewer slices once it is asked, and is asked in one of these
+            words = self.said(*sides, int(words[2]))[0].split()
         return int(words[1]) if words[0] == "differ" else None
 
     def tick_of(self, side: Side, index: int, slices: int) -> int:

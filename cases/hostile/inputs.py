@@ -15,9 +15,10 @@ import bare
 import binary
 from assembler import assemble
 from boards import Board
-from files import Fault
+from files import Fault, read_image, read_schedule
 from guests import System
 from report import answer
+from twin import Side
 
 Input = Tuple[List[str], Files]
 EXAMPLES = os.path.join(os.path.dirname(CASES), "examples")
@@ -96,6 +97,8 @@ def everywhere() -> Iterator[Input]:
     ]
     net = {"a.img": flat, "a.sch": SCHEDULE, "b.img": image_of(HI, 2, False), "b.sch": b"1 line 2\n"}
     calls += [("wire 2 40 a.img a.sch b.img b.sch", net, name) for name in net]
+    same = {"a.img": flat, "a.sch": SCHEDULE, "b.img": flat, "b.sch": SCHEDULE}
+    calls += [("twin a.img a.sch b.img b.sch 0 1", same, name) for name in same]
     for words, files, name in calls:
         yield from with_changed(words.split(), files, name)
     yield from ((["bare", "a.bin", "9", "0"], {"a.bin": bytes(size)}) for size in (0, bare.SIZE, bare.SIZE + 1))
@@ -186,6 +189,26 @@ def wire_input(chance: random.Random, pools: Pools) -> Input:
     return words, files
 
 
+def twin_input(chance: random.Random, pools: Pools) -> Input:
+    """Two runs of one image and one schedule, of which one file is mostly changed, up to a slice to which the reference comes."""
+    image, schedule = chance.choice(pools.images), chance.choice(pools.schedules)
+    contents = [image, schedule, image, schedule]
+    if chance.random() < 0.9:
+        place = chance.randrange(4)
+        pool = pools.schedules if place % 2 else pools.images
+        contents[place] = some(chance, pool, 0.6) if chance.random() < 0.5 else drawn(chance, contents[place], pool)
+    env, slices = 31, 1
+    try:
+        sides = [Side(read_image(contents[place]), read_schedule(contents[place + 1])).run(LONG) for place in (0, 2)]
+        reached = {it: min(side.slices(it) for side in sides) for it in range(32)}
+        env = chance.choice([it for it in reached if reached[it]] or [31])
+        slices = chance.randint(1, max(1, reached[env]))
+    except Fault:
+        pass
+    names = ["left.img", "left.sch", "right.img", "right.sch"]
+    return ["twin", *names, str(env), str(slices)], dict(zip(names, contents))
+
+
 WORDS = ("", "-1", "+1", " 1", "0x10", "00000000001", "run", "asm", "no.img", "--help", "-", "1e3", "16", "65536", "65537", "4194304", "4194305", "262145",
          "4294967295", "4294967296", "9999999999")
 
@@ -203,11 +226,12 @@ def words_input(chance: random.Random, pools: Pools) -> Input:
             words.insert(at, chance.choice(words or [""]))
         else:
             words[at : at + 1] = [chance.choice(WORDS)]
-    runs = is_command(words) and (words[0] == "load" or any(word.isdigit() and int(word) > 1000 for word in words))
+    runs = is_command(words) and (words[0] in ("load", "twin") or any(word.isdigit() and int(word) > 1000 for word in words))
     return (words, {} if chance.random() < 0.8 else files) if not runs else ([], {})
 
 
-INPUTS: List[Callable[[random.Random, Pools], Input]] = [run_input, run_input, asm_input, list_input, image_input, audit_input, bare_input, wire_input]
+INPUTS: List[Callable[[random.Random, Pools], Input]] = [run_input, run_input, asm_input, list_input, image_input, audit_input, bare_input, wire_input,
+                                                               twin_input]
 
 
 def drawn_input(number: int, pools: Pools) -> Input:

@@ -21,12 +21,11 @@ BEGINNINGS = ("start", "transfer")  # the items with which a slice begins
 
 
 class End(NamedTuple):
-    """The end of a slice: how many ticks there were, how many items the environment was given, and the fingerprint of what a report
-    shows of it."""
+    """The end of a slice: how many ticks there were, how many items the environment was given, and what a report shows of it."""
 
     ticks: int
     items: int
-    fingerprint: str
+    text: str
 
 
 class Side:
@@ -47,7 +46,7 @@ class Side:
                 self.begun.add(number)
         for number in self.begun - ({board.runner.number} if board.runner else set()):
             self.begun.remove(number)
-            self.ends[number].append(End(board.time, len(board.feeds[number]), self.fingerprint(number)))
+            self.ends[number].append(End(board.time, len(board.feeds[number]), self.text(number)))
 
     def run(self, ticks: int) -> Side:
         """Goes on to so many ticks, or until the board is idle."""
@@ -72,10 +71,9 @@ class Side:
         """What an environment was given up to the end of so many slices."""
         return self.board.feeds[number][: self.ends[number][slices - 1].items]
 
-    def fingerprint(self, number: int) -> str:
-        """Of the lines that a report has of an environment."""
-        lines = env_lines(self.board, self.board.envs[number])
-        return sha256("".join(f"{line}\n" for line in lines).encode("latin-1")).hexdigest()
+    def text(self, number: int) -> str:
+        """The lines that a report has of an environment."""
+        return "".join(f"{line}\n" for line in env_lines(self.board, self.board.envs[number]))
 
 
 def digest(data: bytes) -> str:
@@ -122,7 +120,7 @@ def compared(left: Side, right: Side, number: int, slices: int) -> Tuple[int, st
     feeds = left.feed_to(number, slices), right.feed_to(number, slices)
     place = first_difference(*feeds)
     if place is None:
-        return DONE, f"same {number} {left.ends[number][slices - 1].fingerprint}\n"
+        return DONE, f"same {number} {digest(left.ends[number][slices - 1].text.encode('latin-1'))}\n"
     items = (item_text(feed[place] if place < len(feed) else None) for feed in feeds)
     return FOUND, "".join(f"{line}\n" for line in (f"differ {place}", *items))
 
