@@ -12,6 +12,6 @@ mod program;
 mod schedule;
 
 pub use image::load_image;
-pub use library::{PIPE, RPC, STRIDE, VM};
+pub use library::{PIPE, RPC, STORM, STRIDE, VM};
 pub use program::{LOAD, LOAD_ELF};
 pub use schedule::load_schedule;
