@@ -1,4 +1,4 @@
-//! Calls with ample memory, and calls of which one read or one write is refused.
+//! Calls with ample memory, and calls of each command of which one read or one write is refused.
 use super::*;
 use aegis_tick::boot;
 use asm_parse::parse;
@@ -48,8 +48,11 @@ sum 1 1 0 0
 done
 ";
 
-/// How many writes of three bytes it takes.
-const WRITES: u64 = 66;
+/// A program of the bare board that does nothing: what stands behind its byte is zero too.
+const NOPS: &[u8] = b"\0";
+
+/// A plan of a scheduler that gives no slice away.
+const PLAN: &[u8] = b"from 31\nclient 0 1\nclient 1 1\n";
 
 /// More bytes than any output here has.
 const ROOM: usize = 4096;
@@ -71,18 +74,91 @@ struct Call<'a> {
     most: usize,
 }
 
+/// The words of a run.
+const RUN_WORDS: &[&str] = &["run", "two.img", "none.sch", "100"];
+
+/// The words of an image that is made.
+const IMAGE_WORDS: &[&str] = &["image", "two.txt"];
+
+/// A run that nothing is refused.
 const RUN: Call<'_> = Call {
-    words: &["run", "two.img", "none.sch", "100"],
+    words: RUN_WORDS,
     read: NONE,
     write: NONE,
     room: ROOM,
     most: ROOM,
 };
 
-const IMAGE: Call<'_> = Call {
-    words: &["image", "two.txt"],
-    ..RUN
-};
+/// A command over files that are there.
+#[derive(Clone, Copy)]
+struct Command<'a> {
+    words: &'a [&'a str],
+    /// The names that it reads, in turn.
+    reads: &'a [&'a str],
+    /// Three sizes of piece in which its output is taken.
+    pieces: [usize; 3],
+}
+
+/// Each command; those whose output or whose work is long have it taken in larger pieces.
+const COMMANDS: [Command<'_>; 11] = [
+    Command {
+        words: RUN_WORDS,
+        reads: &["two.img", "none.sch"],
+        pieces: [1, 3, 64],
+    },
+    Command {
+        words: &["tlb", "two.img", "none.sch", "100"],
+        reads: &["two.img", "none.sch"],
+        pieces: [16, 64, 1000],
+    },
+    Command {
+        words: &["trace", "two.img", "none.sch", "100", "1"],
+        reads: &["two.img", "none.sch"],
+        pieces: [1, 3, 64],
+    },
+    Command {
+        words: &["asm", "exit.s"],
+        reads: &["exit.s"],
+        pieces: [1, 3, 64],
+    },
+    Command {
+        words: &["list", "exit.elf"],
+        reads: &["exit.elf"],
+        pieces: [1, 3, 64],
+    },
+    Command {
+        words: IMAGE_WORDS,
+        reads: &["two.txt", "exit.elf", "exit.elf"],
+        pieces: [1, 3, 64],
+    },
+    Command {
+        words: &["bare", "nops.bin", "10", "0"],
+        reads: &["nops.bin"],
+        pieces: [64, 256, 1000],
+    },
+    Command {
+        words: &["audit", "two.report", "16"],
+        reads: &["two.report"],
+        pieces: [1, 3, 64],
+    },
+    Command {
+        words: &["audit", "two.report", "16", "two.plan"],
+        reads: &["two.report", "two.plan"],
+        pieces: [1, 3, 64],
+    },
+    Command {
+        words: &[
+            "wire", "1", "20", "two.img", "none.sch", "two.img", "none.sch",
+        ],
+        reads: &["two.img", "none.sch", "two.img", "none.sch"],
+        pieces: [1, 3, 64],
+    },
+    Command {
+        words: &["load", "1"],
+        reads: &[],
+        pieces: [300, 1000, ROOM],
+    },
+];
 
 /// How a call ended.
 #[derive(Drop)]
@@ -134,10 +210,24 @@ fn program_and_image(alloc: Global) -> Result<(Vec<u8>, Vec<u8>), Fail> {
     let program = done(alloc, &["asm", "exit.s"], &[("exit.s", SOURCE)])?;
     let image = done(
         alloc,
-        IMAGE.words,
+        IMAGE_WORDS,
         &[("two.txt", MANIFEST), ("exit.elf", &program)],
     )?;
     Ok((program, image))
+}
+
+/// The files that the commands name.
+fn named_files<'a>(program: &'a [u8], image: &'a [u8]) -> [(&'a str, &'a [u8]); 8] {
+    [
+        ("exit.s", SOURCE),
+        ("exit.elf", program),
+        ("two.txt", MANIFEST),
+        ("two.img", image),
+        ("none.sch", b""),
+        ("nops.bin", NOPS),
+        ("two.report", REPORT),
+        ("two.plan", PLAN),
+    ]
 }
 
 /// How a call over these files ends.
@@ -165,7 +255,7 @@ fn ample_memory_is_enough(rt: HostRuntime) -> Result<(), Fail> {
     let (program, image) = program_and_image(alloc)?;
     let listing = done(alloc, &["list", "exit.elf"], &[("exit.elf", &program)])?;
     assert_eq!(rt; listing.as_slice(), LISTING);
-    let report = done(alloc, RUN.words, &[("two.img", &image), ("none.sch", b"")])?;
+    let report = done(alloc, RUN_WORDS, &[("two.img", &image), ("none.sch", b"")])?;
     assert_eq!(rt; report.as_slice(), REPORT);
     Ok(())
 }
@@ -194,25 +284,21 @@ fn ample_memory_is_enough_for_calls_of_no_command(rt: HostRuntime) -> Result<(),
 fn a_refused_read_ends_the_call(rt: HostRuntime) -> Result<(), Fail> {
     let alloc = rt.alloc();
     let (program, image) = program_and_image(alloc)?;
-    let named: [(&str, &[u8]); 4] = [
-        ("two.img", &image),
-        ("none.sch", b""),
-        ("two.txt", MANIFEST),
-        ("exit.elf", &program),
-    ];
-    // Each read, refused in turn.
-    let reads = [
-        (RUN, 0u64, "two.img"),
-        (RUN, 1, "none.sch"),
-        (IMAGE, 0, "two.txt"),
-        (IMAGE, 1, "exit.elf"),
-        (IMAGE, 2, "exit.elf"),
-    ];
-    for (call, read, name) in reads {
-        let end = ended(alloc, &Call { read, ..call }, &named)?;
-        assert_eq!(rt; end.status.code(), Status::ReadFault.code());
-        assert_eq!(rt; (end.written.len(), end.reads), (0, read.saturating_add(1)));
-        assert_eq!(rt; end.failed.as_str(), name);
+    let named = named_files(&program, &image);
+    for command in COMMANDS {
+        let words = command.words;
+        // Each read, refused in turn, and at last none.
+        for (at, name) in command.reads.iter().enumerate() {
+            let read = u64::try_from(at)?;
+            let end = ended(alloc, &Call { words, read, ..RUN }, &named)?;
+            assert_eq!(rt; end.status.code(), Status::ReadFault.code(), "{name}");
+            assert_eq!(rt; (end.written.len(), end.reads), (0, read.saturating_add(1)));
+            assert_eq!(rt; end.failed.as_str(), *name);
+        }
+        let end = ended(alloc, &Call { words, ..RUN }, &named)?;
+        assert_eq!(rt; end.status.code(), Status::Done.code());
+        assert_eq!(rt; end.reads, u64::try_from(command.reads.len())?);
+        assert_eq!(rt; end.failed.as_str(), "");
     }
     Ok(())
 }
@@ -220,26 +306,54 @@ fn a_refused_read_ends_the_call(rt: HostRuntime) -> Result<(), Fail> {
 #[test]
 fn a_refused_write_ends_the_call(rt: HostRuntime) -> Result<(), Fail> {
     let alloc = rt.alloc();
-    let (_, image) = program_and_image(alloc)?;
-    let named: [(&str, &[u8]); 2] = [("two.img", &image), ("none.sch", b"")];
-    // Each write of three bytes, refused in turn, and at last none.
-    for write in 0..=WRITES {
-        let slow = Call {
-            most: 3,
-            write,
-            ..RUN
-        };
-        let end = ended(alloc, &slow, &named)?;
-        let (status, written) = match REPORT.get(..usize::try_from(3 * write)?) {
-            Some(first) => (Status::WriteFault, first),
-            None => (Status::Done, REPORT),
-        };
-        assert_eq!(rt; end.status.code(), status.code(), "{write}");
-        assert_eq!(rt; end.written.as_slice(), written, "{write}");
+    let (program, image) = program_and_image(alloc)?;
+    let named = named_files(&program, &image);
+    for command in COMMANDS {
+        let words = command.words;
+        let whole = ended(alloc, &Call { words, ..RUN }, &named)?.written;
+        assert!(rt; !whole.is_empty());
+        for most in command.pieces {
+            // Each write of so many bytes, refused in turn, and at last none.
+            let writes = whole.len().div_ceil(most.max(1));
+            for at in 0..=writes {
+                let write = u64::try_from(at)?;
+                let slow = Call {
+                    words,
+                    write,
+                    most,
+                    ..RUN
+                };
+                let end = ended(alloc, &slow, &named)?;
+                let (status, length) = if at < writes {
+                    (Status::WriteFault, at.saturating_mul(most))
+                } else {
+                    (Status::Done, whole.len())
+                };
+                assert_eq!(rt; end.status.code(), status.code(), "{write} of {most}");
+                assert_eq!(rt;
+                    Some(end.written.as_slice()),
+                    whole.get(..length),
+                    "{write} of {most}"
+                );
+            }
+        }
     }
-    // Room for ten bytes.
-    let end = ended(alloc, &Call { room: 10, ..RUN }, &named)?;
-    assert_eq!(rt; end.status.code(), Status::WriteFault.code());
-    assert_eq!(rt; end.written.as_slice(), b"aegis run\n".as_slice());
+    Ok(())
+}
+
+#[test]
+fn a_sink_without_room_ends_the_call(rt: HostRuntime) -> Result<(), Fail> {
+    let alloc = rt.alloc();
+    let (program, image) = program_and_image(alloc)?;
+    let named = named_files(&program, &image);
+    for command in COMMANDS {
+        let words = command.words;
+        let whole = ended(alloc, &Call { words, ..RUN }, &named)?.written;
+        for room in [0, 10, whole.len().saturating_sub(1)] {
+            let end = ended(alloc, &Call { words, room, ..RUN }, &named)?;
+            assert_eq!(rt; end.status.code(), Status::WriteFault.code(), "{room}");
+            assert_eq!(rt; Some(end.written.as_slice()), whole.get(..room), "{room}");
+        }
+    }
     Ok(())
 }
