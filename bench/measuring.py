@@ -27,9 +27,12 @@ def written(folder: str, name: str, content: bytes, mode: int = 0o600) -> str:
     return path
 
 
-def run(command: Command) -> subprocess.CompletedProcess:
-    """Runs a command, whose output goes nowhere; it has to end well."""
-    return subprocess.run(command, stdout=subprocess.DEVNULL, stderr=subprocess.PIPE, text=True, check=True)
+def run(command: Command, ends: Sequence[int] = (0,)) -> subprocess.CompletedProcess:
+    """Runs a command, whose output goes nowhere; it has to end with one of these statuses."""
+    ran = subprocess.run(command, stdout=subprocess.DEVNULL, stderr=subprocess.PIPE, text=True)
+    if ran.returncode not in ends:
+        ran.check_returncode()
+    return ran
 
 
 def seconds(command: Command) -> float:
@@ -53,14 +56,14 @@ def best(commands: Sequence[Command], rounds: int, measure: Callable[[Command], 
     return [min(times) for times in zip(*([measure(it) for it in commands] for _ in range(rounds)))]
 
 
-def peak(command: Command) -> str:
+def peak(command: Command, ends: Sequence[int] = (0,)) -> str:
     """The most memory, in KiB: by GNU time, since a child of Python counts Python's own."""
-    return run(("/usr/bin/time", "-f", "%M", *command)).stderr.strip()
+    return run(("/usr/bin/time", "-q", "-f", "%M", *command), ends).stderr.strip()
 
 
-def instructions(command: Command) -> int:
+def instructions(command: Command, ends: Sequence[int] = (0,)) -> int:
     """The host's instructions, by valgrind, which no load changes."""
-    ran = run(("valgrind", "--tool=callgrind", "--callgrind-out-file=/dev/null", *command))
+    ran = run(("valgrind", "--tool=callgrind", "--callgrind-out-file=/dev/null", *command), ends)
     return int(re.search(r"Collected : (\d+)", ran.stderr)[1])
 
 
