@@ -108,7 +108,9 @@ def failure(folder: str, system_of: Callable[[int], RandomSystem], seed: int, se
     return f"seed {seed}, {system.ticks} ticks, {why}"
 
 
-def trace_failure(words, ticks, answered, board, traces, seen):
+def trace_failure(
+    words: List[str], ticks: int, answered: Tuple[int, str], board: Optional[Board], traces: Traces, seen: Counter[Thing]
+) -> str:
     """Why a trace of a run differs, of an environment or of one that there isn't; or nothing. `answered` is what `run` answers."""
     for number in range(min(len(board.envs), 31) + 1 if board else 1):
         wanted = (0, traces.text(board, ticks, number)) if board else answered
@@ -121,7 +123,7 @@ def trace_failure(words, ticks, answered, board, traces, seen):
     return ""
 
 
-def last_line_failure(trace, report, number, seen):
+def last_line_failure(trace: str, report: str, number: int, seen: Counter[Thing]) -> str:
     """How registers of a trace's last line differ from the report's; or nothing. A slice that the environment was given behind
     that line may have changed them."""
     lines, regs = trace.splitlines(), re.search(rf"^regs {number} (.*)$", report, re.M)

@@ -4,7 +4,10 @@ The names are those of docs/MACHINE.md. An operand is a letter: s, t, d the regi
 i a signed half and u an unsigned one; b the address of a branch and j that of a jump; m a signed half with rs in brackets;
 c a code.
 """
+from __future__ import annotations
+
 from functools import lru_cache
+from typing import Optional, Tuple
 
 from machine import WORD, coprocessor, decode, reserved
 
@@ -33,7 +36,7 @@ OPERANDS = {
 }
 
 
-def named(word):
+def named(word: int) -> Optional[Tuple[str, str]]:
     """The name of a word's instruction and its operands, or None where it has none."""
     it = decode(word)
     if it.effect is coprocessor:
@@ -49,7 +52,7 @@ def named(word):
 
 
 @lru_cache(maxsize=1 << 16)
-def text_of_word(word, address):
+def text_of_word(word: int, address: int) -> str:
     """The instruction that a word is, as the assembler reads it at this address."""
     found = named(word)
     if found is None:

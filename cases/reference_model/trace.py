@@ -1,7 +1,10 @@
 """What a trace writes: docs/REPORT.md, "The trace". `python3 trace.py IMAGE SCHEDULE TICKS ENV` writes it."""
-import sys
+from __future__ import annotations
 
-from board import word_of
+import sys
+from typing import Dict, List
+
+from board import Board, Env, word_of
 from files import PAGE
 from listing import text_of_word
 from report import answer, end_line
@@ -10,12 +13,12 @@ from ticks import finish_tick
 NAMES = [f"${number}" for number in range(1, 32)] + ["hi", "lo"]
 
 
-def values(env):
+def values(env: Env) -> List[int]:
     """What a line tells of an environment's registers: $1 to $31, HI and LO."""
     return [*env.cpu.regs[1:], env.cpu.hi, env.cpu.lo]
 
 
-def instruction(board, env):
+def instruction(board: Board, env: Env) -> str:
     """The word at which an environment stands, and its text; or that the fetch is refused."""
     pc = env.cpu.pc
     seen = None if pc % 4 or pc >> 31 else env.sees(pc // PAGE)
@@ -29,9 +32,9 @@ class Traces:
     """The lines of each environment, as they come tick by tick."""
 
     def __init__(self):
-        self.lines = {}
+        self.lines: Dict[int, List[str]] = {}
 
-    def finish(self, board):
+    def finish(self, board: Board) -> None:
         """The step of a tick, and what stands in a line after it."""
         env = board.runner
         before = values(env)
@@ -43,13 +46,13 @@ class Traces:
             line += "".join(f" {name} {new:08x}" for name, old, new in zip(NAMES, before, values(env)) if old != new)
         self.lines.setdefault(env.number, []).append(line)
 
-    def text(self, board, ticks, number):
+    def text(self, board: Board, ticks: int, number: int) -> str:
         """The trace of an environment, which may be none of the image."""
         lines = [f"aegis trace {number}", *self.lines.get(number, ()), end_line(board, ticks), "done"]
         return "".join(f"{line}\n" for line in lines)
 
 
-def main():
+def main() -> None:
     files, traces = [], Traces()
     for name in sys.argv[1:3]:
         with open(name, "rb") as file:

@@ -1,17 +1,21 @@
 """Machines on a wire: docs/KERNEL.md, "Machines on a wire". `python3 wire.py DELAY TICKS (IMAGE SCHEDULE) ..` writes what `wire`
 does, and ends with the status.
 """
+from __future__ import annotations
+
 import sys
 from collections import deque
 from dataclasses import dataclass
 from itertools import chain
+from typing import Iterator, List, Optional, Tuple
 
 from board import Board
-from files import Event, Fault, read_image, read_schedule
+from files import Event, Fault, Image, read_image, read_schedule
 from report import DONE, REFUSED, report_lines
 from ticks import happen_now, tick
 
 RECEIVER, ALL_OTHERS = 5, 0xFF  # the byte of a packet that names the machine, and the number for all of them
+File = Tuple[str, bytes]  # its name, and what it has
 
 
 @dataclass
@@ -27,14 +31,14 @@ class Packet:
 class Wire:
     """Machines, each with the events of its schedule that are still to come, and all packets that were sent so far."""
 
-    def __init__(self, images, schedules, delay):
+    def __init__(self, images: List[Image], schedules: List[List[Event]], delay: int):
         self.boards, self.delay, self.packets = [Board(image) for image in images], delay, []
         self.schedules, self.coming = schedules, [deque(events) for events in schedules]
         self.arrivals = [[] for _ in images]  # by machine, those that are due before its own end or behind it
         self.due = [deque() for _ in images]  # of these, those that are still to come
         self.counts = [[0] * len(board.envs) for board in self.boards]  # of the packets of each environment that are on the wire
 
-    def run(self, ticks):
+    def run(self, ticks: int) -> None:
         """Makes so many ticks of each machine, or those up to where it is idle."""
         for time in range(ticks):
             for machine, board in enumerate(self.boards):
@@ -49,36 +53,36 @@ class Wire:
                     self.arrivals[machine].append(arrival)
                     self.due[machine].append(arrival)
 
-    def sent(self, time):
+    def sent(self, time: int) -> Iterator[Packet]:
         """The packets that were sent in a tick which is just over, by sender and by environment."""
         for machine, board in enumerate(self.boards):
             for env in board.envs:
                 yield from (Packet(time, machine, env.number, data) for data in env.sent[self.counts[machine][env.number]:])
                 self.counts[machine][env.number] = len(env.sent)
 
-    def receivers(self, packet):
+    def receivers(self, packet: Packet) -> List[int]:
         """The machines to which a packet comes: never the sender."""
         named = packet.data[RECEIVER]
         return [machine for machine in range(len(self.boards)) if machine != packet.machine and named in (machine, ALL_OTHERS)]
 
-    def events(self, machine):
+    def events(self, machine: int) -> List[Event]:
         """All events of a machine: in each tick first its schedule's, then the arrivals."""
         return sorted(self.schedules[machine] + self.arrivals[machine], key=lambda event: event.tick)
 
 
-def event_text(event):
+def event_text(event: Event) -> str:
     """The line of an event in a schedule."""
     if event.packet is not None:
         return f"{event.tick} packet {event.packet.hex()}"
     return f"{event.tick} line {event.line}" if event.revoke is None else " ".join(map(str, (event.tick, "revoke", *event.revoke)))
 
 
-def schedule_text(events):
+def schedule_text(events: List[Event]) -> bytes:
     """The schedule that has these events."""
     return "".join(f"{event_text(event)}\n" for event in events).encode()
 
 
-def wire_lines(wire, ticks):
+def wire_lines(wire: Wire, ticks: int) -> Iterator[str]:
     yield f"aegis wire {len(wire.boards)}"
     for machine, board in enumerate(wire.boards):
         yield f"machine {machine}"
@@ -86,9 +90,8 @@ def wire_lines(wire, ticks):
     yield "done"
 
 
-def answer(pairs, delay, ticks):
-    """The status and the text of `wire DELAY TICKS (IMAGE SCHEDULE) ..`, and the wire if there is one; each pair is of two files
-    (name, bytes)."""
+def answer(pairs: List[Tuple[File, File]], delay: int, ticks: int) -> Tuple[int, str, Optional[Wire]]:
+    """The status and the text of `wire DELAY TICKS (IMAGE SCHEDULE) ..`, and the wire if there is one; each pair is of two files."""
     read = []
     for (name, content), reader in zip(chain.from_iterable(pairs), (read_image, read_schedule) * len(pairs)):
         try:
@@ -100,7 +103,7 @@ def answer(pairs, delay, ticks):
     return DONE, "".join(f"{line}\n" for line in wire_lines(wire, ticks)), wire
 
 
-def main():
+def main() -> None:
     delay, ticks, *names = sys.argv[1:]
     files = []
     for name in names:

@@ -7,6 +7,7 @@ Now and then there are as many environments as the version allows.
 from __future__ import annotations
 
 import os
+import random
 import sys
 
 sys.path.append(os.path.join(os.path.dirname(os.path.dirname(os.path.realpath(__file__))), "reference_model"))
@@ -24,7 +25,7 @@ VALUE, VPN = SCRATCH[0], SCRATCH[1]
 class Walker(guests.Guest):
     """A program of guests.py that walks over pages too."""
 
-    def __init__(self, chance, system, number):
+    def __init__(self, chance: random.Random, system: System, number: int):
         super().__init__(chance, system, number)
         self.array = system.arrays[number]
 
@@ -105,7 +106,7 @@ class System(guests.System):
         self.total += sum(self.arrays)
         return super().machine_pages()
 
-    def program(self, environment, stack) -> binary.Program:
+    def program(self, environment: int, stack: int) -> binary.Program:
         pages = self.arrays[environment]
         if not pages:
             return super().program(environment, stack)

@@ -5,17 +5,20 @@ its byte 5 mostly names a machine: another, all others, the sender itself, or on
 round: the reply has its first bytes, and another receiver. Some machines have one environment alone, which sends a few
 packets and exits, so that they are idle early.
 """
+from __future__ import annotations
+
 import os
 import random
 import struct
 import sys
+from typing import List, Tuple
 
 CASES = os.path.dirname(os.path.dirname(os.path.realpath(__file__)))
 sys.path[:0] = [f"{CASES}/reference_model", f"{CASES}/random_systems", CASES]
 import binary
 from guests import PACKETS, SEND, Guest, System, Traffic
 from handler_words import Handlers
-from systems import A0, A1, BASE, COUNTER, EXIT, NOP, OPCODES, PAGE, SYSCALL, V0, ZERO, addiu, immediate, ori
+from systems import A0, A1, BASE, COUNTER, EXIT, NOP, OPCODES, SYSCALL, V0, ZERO, addiu, immediate, ori
 
 FRAMES, FRAME = 12, 64  # that a program has to send, and how far apart they stand
 DELAYS = (1, 1, 1, 2, 2, 3, 7, 16, 16, 40, 40, 100, 100, 400, 65_536)
@@ -26,10 +29,10 @@ class TurningHandlers(Handlers):
 
     targets = (0,)
 
-    def words(self):
+    def words(self) -> List[int]:
         return self.turning() if self.chance.random() < 0.5 else super().words()
 
-    def turning(self):
+    def turning(self) -> List[int]:
         """Copies sixteen bytes of the packet into the page, changes its receiver and at times its first byte, and replies."""
         place = 0x1000 + 16 * self.chance.randrange(4, 8)
         words = []
@@ -44,7 +47,7 @@ class TurningHandlers(Handlers):
 class NetGuest(Guest):
     """A program with frames for other machines."""
 
-    def __init__(self, chance, system, number):
+    def __init__(self, chance: random.Random, system: NetSystem, number: int):
         self.net = system.net
         targets = self.net.targets(system.machine)
         self.MAKES = type("Turning", (TurningHandlers,), {"targets": targets})
@@ -54,17 +57,17 @@ class NetGuest(Guest):
             frame[5] = chance.choice(targets)
             self.keep(PACKETS + FRAME * at, frame)
 
-    def send(self):
+    def send(self) -> None:
         """Sends a frame, or what programs of a machine alone send."""
         if self.chance.random() < 0.15:
             super().send()
         else:
             self.call(SEND, self.frame(), self.chance.choice((14, 15, 16, 40, FRAME)))
 
-    def frame(self):
+    def frame(self) -> int:
         return PACKETS + FRAME * self.chance.randrange(FRAMES)
 
-    def burst(self):
+    def burst(self) -> None:
         """Sends a frame some times, tick upon tick."""
         self.load_number(A0, self.frame())
         self.add(ori(A1, ZERO, self.chance.choice((14, 16, FRAME))), *[ori(V0, ZERO, SEND), SYSCALL] * self.chance.randrange(2, 6))
@@ -75,7 +78,7 @@ class NetGuest(Guest):
 class NetTraffic(Traffic):
     """The filters of all machines of a net, and packets of the lengths that a frame may have."""
 
-    def __init__(self, chance, filters):
+    def __init__(self, chance: random.Random, filters: List[List[Tuple[int, ...]]]):
         super().__init__(chance)
         self.filters = filters
 
@@ -85,14 +88,14 @@ class NetSystem(System):
 
     GUEST = NetGuest
 
-    def __init__(self, seed, net, machine):
+    def __init__(self, seed: int, net: Net, machine: int):
         self.net, self.machine = net, machine
         super().__init__(seed)
 
-    def new_traffic(self):
+    def new_traffic(self) -> NetTraffic:
         return NetTraffic(self.chance, self.net.filters)
 
-    def environments(self):
+    def environments(self) -> int:
         return self.chance.randrange(1, 4)
 
 
@@ -101,7 +104,7 @@ class Brief:
 
     schedule = b""
 
-    def __init__(self, seed, net, machine):
+    def __init__(self, seed: int, net: Net, machine: int):
         chance = random.Random(seed)
         frame = bytearray(NetTraffic(chance, net.filters).packet().ljust(14, b"\0")[:FRAME])
         frame[5] = chance.choice(net.targets(machine))
@@ -114,7 +117,7 @@ class Brief:
 class Net:
     """Two to eight machines, a delay and a number of ticks."""
 
-    def __init__(self, seed):
+    def __init__(self, seed: int):
         chance = self.chance = random.Random(seed)
         self.count, self.filters = chance.randrange(2, 9), []
         self.delay = chance.choice(DELAYS)
@@ -124,7 +127,7 @@ class Net:
         if chance.random() < 0.06:
             self.machines = [self.machines[0]] * self.count
 
-    def targets(self, machine):
+    def targets(self, machine: int) -> Tuple[int, ...]:
         """What byte 5 may name, mostly other machines or all of them."""
         others = [it for it in range(self.count) if it != machine]
         return (*others * 2, *[0xFF] * (1 + len(others)), machine, self.count, 0xFE)
