@@ -477,6 +477,7 @@ class Board:
         number = self.next_claim
         self.claims[number] = Claim(number, env, filter_, page)
         self.next_claim += 1
+        self.seen["claims beside sixty others"] += len(self.claims) > 60
         return number
 
     def withdraw(self, claim: Claim, cause: str) -> None:
@@ -493,6 +494,7 @@ class Board:
 
     def receive(self, packet: bytes) -> None:
         """A packet comes: it is the lowest claim's that matches it, and nobody's if none does."""
+        self.seen["packets that several claims match"] += sum(claim.filter.matches(packet) for claim in self.claims.values()) > 1
         claim = next((claim for _, claim in sorted(self.claims.items()) if claim.filter.matches(packet)), None)
         if claim is None:
             self.row("drop", len(packet))

@@ -455,7 +455,7 @@ class System:
         self.slots = [0] + [chance.choice((environment,) * 6 + (255,)) for environment in range(1, count)]
         self.slots += [chance.choice((*range(count), 255)) for _ in range(chance.randrange(4))]
         chance.shuffle(self.slots)
-        self.quantum, self.ticks = chance.randrange(16, 100), chance.randrange(*chance.choice(((40,), *[(300, 1000)] * 3, *[(1000, 3000)] * 5)))
+        self.quantum, self.ticks = chance.randrange(16, 100), self.duration()
         self.traffic, self.revokes, self.deadlines = self.new_traffic(), chance.choice((0, 0, 0.1, 0.3, 0.5)), []
         programs = [self.program(environment, stack) for environment, stack in enumerate(stacks)]
         self.image = binary.image(self.pages, self.quantum, self.slots, programs, self.version)
@@ -471,6 +471,10 @@ class System:
     def environments(self) -> int:
         """How many there are."""
         return self.chance.randrange(1, 7)
+
+    def duration(self) -> int:
+        """For how many ticks it runs."""
+        return self.chance.randrange(*self.chance.choice(((40,), *[(300, 1000)] * 3, *[(1000, 3000)] * 5)))
 
     def machine_pages(self) -> int:
         """How many pages the machine has."""
