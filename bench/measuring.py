@@ -35,10 +35,10 @@ def run(command: Command, ends: Sequence[int] = (0,)) -> subprocess.CompletedPro
     return ran
 
 
-def seconds(command: Command) -> float:
+def seconds(command: Command, ends: Sequence[int] = (0,)) -> float:
     """From its start to its end."""
     begin = time.perf_counter()
-    run(command)
+    run(command, ends)
     return time.perf_counter() - begin
 
 
