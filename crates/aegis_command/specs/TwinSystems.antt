@@ -4,8 +4,9 @@ use Rattle.std.specs.Option.{option_and_then}
 use Rattle.aegis_limits.specs.Limits.{most_ticks}
 use Rattle.line_text.specs.Number.{digits_number}
 use Rattle.boot_image.specs.ImageFaults.{image_fault}
-use Rattle.boot_image.specs.ImageValue.{image_of}
+use Rattle.boot_image.specs.ImageValue.{ImageValue, image_of}
 use Rattle.boot_schedule.specs.Schedule.{events_of, schedule_fault}
+use Rattle.external_event.specs.EventValue.{EventValue}
 use Rattle.world_model.specs.Event.{schedule_of}
 use Rattle.run_model.specs.Run.{System}
 use Rattle.twin_run.specs.declared.answer.TwinAnswer.{TwinAnswer}
@@ -15,6 +16,8 @@ use Rattle.twin_run.specs.Limit.{most_compared_slices}
 use Rattle.twin_run.specs.Text.{twin_text}
 use Rattle.commands.specs.Command.{CommandValue, content, no_further}
 use Rattle.commands.specs.Due.{Due, Found, Whole, unless_refused}
+use Rattle.aegis_command.specs.declared.twin_systems.SystemNames.{SystemNames}
+use Rattle.aegis_command.specs.declared.twin_systems.TwinSystems.{TwinSystems}
 use Rattle.aegis_command.specs.RunImage.{image_refused, schedule_refused}
 use Rattle.aegis_command.specs.TraceEnv.{env_of}
 
@@ -27,13 +30,16 @@ abbrev pub slice_of : List ℕ → Option ℕ
 slice_of word = as_slice (digits_number 10 10 word)
 
 -- the names of a system's files
-pub record SystemNames : Type 0 where
+pub record FileNames : Type 0 where
   pub image : List ℕ
   pub schedule : List ℕ
 
--- the system that two files are
+-- the system of an image and events, and the one that two files are
+abbrev pub meant : ImageValue → List EventValue → System
+meant image events = record { image = image; schedule = schedule_of events }
+
 abbrev pub system_of : (image schedule : List ℕ) → System
-system_of image schedule = record { image = image_of image; schedule = schedule_of (events_of schedule) }
+system_of image schedule = meant (image_of image) (events_of schedule)
 
 -- an answer is found something, unless it is that both are the same
 abbrev pub answer_due : ℕ → TwinAnswer → Due
@@ -44,7 +50,7 @@ abbrev pub answer_on : (left right : System) → ℕ → ℕ → Due
 answer_on left right e n = answer_due e (twin_answer left right e n most_ticks)
 
 -- the first file with a fault is refused, and if none has one, the answer is due
-abbrev pub twin_due : (left right : SystemNames) → ℕ → ℕ → (image schedule other other_schedule : List ℕ) → Due
+abbrev pub twin_due : (left right : FileNames) → ℕ → ℕ → (image schedule other other_schedule : List ℕ) → Due
 twin_due left right e n image schedule other other_schedule =
     unless_refused (image_refused left.image (image_fault image)
     ∷ schedule_refused left.schedule (schedule_fault schedule)
@@ -52,13 +58,23 @@ twin_due left right e n image schedule other other_schedule =
     ∷ schedule_refused right.schedule (schedule_fault other_schedule) ∷ [])
     (answer_on (system_of image schedule) (system_of other other_schedule) e n)
 
-abbrev pub twin_systems : (left right : SystemNames) → ℕ → ℕ → CommandValue
+abbrev pub twin_systems : (left right : FileNames) → ℕ → ℕ → CommandValue
 twin_systems left right e n = record {
   names = left.image ∷ left.schedule ∷ right.image ∷ right.schedule ∷ [];
   further = no_further;
   due = λ contents. Some (twin_due left right e n (content contents 0) (content contents 1) (content contents 2)
       (content contents 3));
 }
+
+-- a comparison that was read from words, and what is due for it
+abbrev pub names_seen : SystemNames → FileNames
+names_seen names = record { image = names.image.now; schedule = names.schedule.now }
+
+abbrev pub twin_seen : TwinSystems → CommandValue
+twin_seen c = twin_systems (names_seen c.left) (names_seen c.right) c.env c.slice.number
+
+abbrev pub due_seen : TwinSystems → (image schedule other other_schedule : List ℕ) → Due
+due_seen c = twin_due (names_seen c.left) (names_seen c.right) c.env c.slice.number
 
 -- the words behind `twin`
 abbrev pub twin_words : List (List ℕ) → Option CommandValue

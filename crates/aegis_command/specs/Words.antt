@@ -15,7 +15,7 @@ use Rattle.aegis_command.specs.RunBare.{bare_words, run_bare}
 use Rattle.aegis_command.specs.RunImage.{run_image, run_words}
 use Rattle.aegis_command.specs.TlbImage.{tlb_image, tlb_words}
 use Rattle.aegis_command.specs.TraceEnv.{trace_env, trace_words}
-use Rattle.aegis_command.specs.TwinSystems.{twin_systems, twin_words}
+use Rattle.aegis_command.specs.TwinSystems.{twin_seen, twin_words}
 use Rattle.aegis_command.specs.WireMachines.{wire_machines, wire_words}
 
 -- the command of these words, if they are one's: its own word first, and then those that it asks for
@@ -50,6 +50,4 @@ command_seen (TraceEnv c) = trace_env c.image.now c.schedule.now c.ticks.number 
 command_seen (RunBare c) = run_bare c.file.now c.ticks.number c.period.number
 command_seen (WireMachines c) = wire_machines (map string_bytes c.files.now) c.delay.ticks c.ticks.number
 command_seen (TlbImage c) = tlb_image c.image.now c.schedule.now c.ticks.number
-command_seen (TwinSystems c) =
-    twin_systems (record { image = c.left.image.now; schedule = c.left.schedule.now })
-    (record { image = c.right.image.now; schedule = c.right.schedule.now }) c.env c.slice.number
+command_seen (TwinSystems c) = twin_seen c

@@ -6,6 +6,7 @@
 #![tactic(auto)]
 
 mod audit_ledger;
+mod last_slice;
 mod load_seed;
 mod quantum;
 mod run_bare;

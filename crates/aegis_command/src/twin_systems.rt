@@ -1,11 +1,10 @@
 //! The command `twin IMAGE SCHEDULE IMAGE SCHEDULE ENV N`.
-ghost use Rattle.std.specs.Prelude.{◌≡◌, ◌≤◌, ◌<◌, ◌^◌, IfOk, length, map, option_map, string_bytes, true};
+ghost use Rattle.std.specs.Prelude.{◌≡◌, ◌<◌, ◌^◌, IfOk, length, map, option_map, string_bytes, true};
 ghost use Rattle.commands.specs.Work.{Settles};
 ghost use Rattle.external_event.specs.Order.{are_in_order};
-ghost use Rattle.world_model.specs.Event.{schedule_of};
-ghost use Rattle.twin_run.specs.Limit.{most_compared_slices};
-ghost use Rattle.aegis_command.specs.TwinSystems.{answer_due, answer_on, slice_of, twin_due, twin_systems, twin_words};
+ghost use Rattle.aegis_command.specs.TwinSystems.{answer_due, answer_on, due_seen, meant, twin_seen, twin_words};
 
+use crate::last_slice::LastSlice;
 use crate::system_files::{SystemFiles, read_system};
 use crate::trace_env::parse_env;
 use aegis_limits::OutOfMemory;
@@ -13,31 +12,8 @@ use boot_image::Image;
 use commands::{Answer, Command, Status, content};
 use external_event::Event;
 use feed_run::BoardRun;
-use line_text::decimal;
 use std::alloc::Global;
-use twin_run::{MOST_COMPARED_SLICES, TwinAnswer, twin, twin_text};
-
-/// The slice up to whose end two runs are compared, by its number.
-#[derive(Clone, Copy)]
-pub struct LastSlice {
-    /// From 1 to `MOST_COMPARED_SLICES`.
-    pub number: u32,
-    ghost within: { number ≤ most_compared_slices },
-}
-
-impl LastSlice {
-    /// The slice that a word gives, if it is the number of one.
-    pub fn parse(word: &str) -> Option<LastSlice>
-        ensures { option_map (λ slice. slice.number) result ≡ slice_of word.now }
-    {
-        let number = decimal(word.as_bytes())?;
-        if 1 <= number && number <= MOST_COMPARED_SLICES {
-            Some(LastSlice { number })
-        } else {
-            None
-        }
-    }
-}
+use twin_run::{TwinAnswer, twin, twin_text};
 
 /// The names of a system's files.
 #[derive(Clone, Copy)]
@@ -65,7 +41,7 @@ pub struct TwinSystems<'a> {
 impl<'a> TwinSystems<'a> {
     /// The comparison that the words behind `twin` ask for, if they are one's.
     pub fn parse(words: &'a [String]) -> Option<TwinSystems<'a>>
-        ensures { option_map (λ c. twin_systems (record { image = c.left.image.now; schedule = c.left.schedule.now }) (record { image = c.right.image.now; schedule = c.right.schedule.now }) c.env c.slice.number) result ≡ twin_words (map string_bytes words.now) }
+        ensures { option_map twin_seen result ≡ twin_words (map string_bytes words.now) }
     {
         let [image, schedule, other, other_schedule, env, slice] = words else {
             return None;
@@ -112,7 +88,7 @@ fn answer<'i, 'b, 'e>(
 ) -> Result<Answer, OutOfMemory>
     requires left { are_in_order 0 left_events.now ≡ true }
     requires right { are_in_order 0 right_events.now ≡ true }
-    ensures { IfOk result (Settles (answer_on (record { image = left.now; schedule = schedule_of left_events.now }) (record { image = right.now; schedule = schedule_of right_events.now }) call.entry.env call.entry.slice.number)) }
+    ensures { IfOk result (Settles (answer_on (meant left.now left_events.now) (meant right.now right_events.now) call.entry.env call.entry.slice.number)) }
 {
     let mut left_run = BoardRun::boot(alloc, left, left_events, call.env)?;
     let mut right_run = BoardRun::boot(alloc, right, right_events, call.env)?;
@@ -139,7 +115,7 @@ fn due<'b>(
     requires schedule { length schedule.now < 2 ^ 27 }
     requires other { length other.now < 2 ^ 27 }
     requires other_schedule { length other_schedule.now < 2 ^ 27 }
-    ensures { IfOk result (Settles (twin_due (record { image = call.entry.left.image.now; schedule = call.entry.left.schedule.now }) (record { image = call.entry.right.image.now; schedule = call.entry.right.schedule.now }) call.entry.env call.entry.slice.number image.now schedule.now other.now other_schedule.now)) }
+    ensures { IfOk result (Settles (due_seen call.entry image.now schedule.now other.now other_schedule.now)) }
 {
     let TwinSystems { left, right, .. } = call;
     let (left, left_events) = match read_system(
@@ -161,7 +137,7 @@ fn due<'b>(
 }
 
 impl Command for TwinSystems<'_> {
-    ghost value = { λ command. twin_systems (record { image = command.left.image.now; schedule = command.left.schedule.now }) (record { image = command.right.image.now; schedule = command.right.schedule.now }) command.env command.slice.number };
+    ghost value = { twin_seen };
 
     fn names(&self, alloc: Global) -> Result<Vec<String>, OutOfMemory> {
         let left_image = String::from_str(alloc, self.left.image)?;

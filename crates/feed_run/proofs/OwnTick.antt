@@ -1,23 +1,21 @@
 -- What a plain tick of an environment gives it: that it steps.
-use Rattle.std.proofs.Common.{◌≡◌, ◌≤◌, ◌<◌, ◌+◌, ℕ, zero, suc, List, [], ◌∷◌, ◌++◌, length, map, Bool, true, false, Option, Some, None, refl, sym, ◌∙◌, ap, subst, arith, rules}
-use Rattle.std.specs.Prelude.{◌==◌, ◌&&◌, if◌then◌else◌, is_none}
+use Rattle.std.proofs.Common.{◌≡◌, ◌≤◌, ◌<◌, ◌+◌, ℕ, List, [], ◌∷◌, ◌++◌, length, map, Bool, false, Option, Some, None, refl, sym, ◌∙◌, ap, subst, arith, rules}
+use Rattle.std.specs.Prelude.{◌&&◌, is_none}
 use Rattle.std.proofs.lemmas.Bool.{eq-eqb, ne_eqb}
 use Rattle.std.proofs.lemmas.List.{append-nil, length-append}
-use Rattle.kernel_journal.specs.declared.row.Row.{Row}
 use Rattle.revocation_book.specs.declared.revocation.Taking.{Taking}
 use Rattle.slot_vector.specs.Slices.{left_of}
 use Rattle.world_model.specs.declared.slot.Runner.{Runner}
-use Rattle.world_model.specs.declared.timer.Timer.TheVariants as answer
 use Rattle.world_model.specs.Book.{Book, is_idle_book, running}
 use Rattle.world_model.specs.Deadlines.{settles, takes, takings}
 use Rattle.external_event.specs.declared.event.Occurrence.{Occurrence}
 use Rattle.world_model.specs.Event.{Schedule, happen}
 use Rattle.world_model.specs.Item.{Item, Step}
-use Rattle.world_model.specs.PageCalls.{left_at, left_by}
-use Rattle.world_model.specs.Solo.{Key, Kept, Physical, Store}
+use Rattle.world_model.specs.PageCalls.{left_at}
+use Rattle.world_model.specs.Solo.{Key, Kept, Physical}
 use Rattle.world_model.specs.Step.{Act, Nothing, Stores, Calls, Raises, Dies}
-use Rattle.world_model.specs.Tick.{act_now, act_reply, clock, count_when, phases_after, serve_phases, served, step, step_when, timer, timer_now, turn, turn_when}
-use Rattle.world_model.specs.World.{World, Reply, after, in_turn, no_change, only, run_phases, tells}
+use Rattle.world_model.specs.Tick.{act_now, act_reply, count_when, phases_after, serve_phases, step, step_when, timer, turn, turn_when}
+use Rattle.world_model.specs.World.{World, Reply, after, in_turn, no_change, run_phases, tells}
 use Rattle.run_model.specs.Run.{after_phase, next_items}
 use Rattle.run_model.proofs.Phases.{after_no_change}
 use Rattle.board_model.specs.Stretch.{IsAtStep, IsOwnAct, IsOwnTick}

@@ -1,7 +1,7 @@
 -- A tick in which no slice ended, and plain ticks behind it.
-use Rattle.std.proofs.Common.{◌≡◌, ◌≤◌, ◌<◌, ◌+◌, ℕ, suc, Bool, true, false, sym, ◌∙◌, ap, subst, arith}
+use Rattle.std.proofs.Common.{◌≡◌, ◌+◌, suc, Bool, false, sym, ◌∙◌, ap, arith}
 use Rattle.std.specs.Prelude.{if◌then◌else◌}
-use Rattle.run_model.specs.Slices.{ends_in, slices}
+use Rattle.run_model.specs.Slices.{slices}
 use Rattle.told_run.specs.Progress.{Progress, WentOn, ended}
 use Rattle.feed_run.specs.Whole.{WentATick, WentPlain}
 

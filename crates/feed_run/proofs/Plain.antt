@@ -1,21 +1,20 @@
 -- The run behind plain ticks of its environment, which are told as steps.
 use Rattle.std.proofs.Common.{◌≡◌, ◌≤◌, ◌<◌, ◌+◌, ◌-◌, ℕ, zero, suc, List, [], ◌∷◌, ◌++◌, length, map, replicate, Bool, true, false, Option, Some, None, refl, sym, ◌∙◌, ap, subst, arith, rules, add-zero, add-suc}
-use Rattle.std.specs.Prelude.{◌==◌, ◌||◌, ◌&&◌, not, if◌then◌else◌}
+use Rattle.std.specs.Prelude.{◌||◌, ◌&&◌, not, if◌then◌else◌}
 use Rattle.std.proofs.lemmas.Bool.{eq-eqb, eqb-true}
-use Rattle.std.proofs.lemmas.List.{append-nil, append_assoc, length-append, length-map, length-replicate}
+use Rattle.std.proofs.lemmas.List.{append-nil, append_assoc, length-append, length-replicate}
 use Rattle.aegis_limits.specs.Limits.{most_ticks}
 use Rattle.boot_image.specs.ImageValue.{ImageValue}
-use Rattle.external_event.specs.declared.event.Occurrence.{Occurrence}
 use Rattle.external_event.specs.EventValue.{EventValue}
 use Rattle.external_event.specs.Order.{are_in_order}
 use Rattle.world_model.specs.declared.slot.Runner.{Runner}
 use Rattle.world_model.specs.Book.{Book, is_idle_book, is_runner, running}
-use Rattle.world_model.specs.Event.{Schedule, schedule_of}
+use Rattle.world_model.specs.Event.{schedule_of}
 use Rattle.world_model.specs.Item.{Item, Step}
 use Rattle.world_model.specs.World.{World}
 use Rattle.run_model.specs.Boot.{boot_world}
-use Rattle.run_model.specs.Run.{System, TimeIsTick, feed, items_in, next_items, world_after, world_after_ticks}
-use Rattle.run_model.specs.Slices.{begins_in, begins_slice, ends_in, runs_after, slices}
+use Rattle.run_model.specs.Run.{System, TimeIsTick, feed, items_in, world_after, world_after_ticks}
+use Rattle.run_model.specs.Slices.{begins_in, ends_in, runs_after, slices}
 use Rattle.item_views.specs.Views.{ItemSeen, item_seen}
 use Rattle.feed_telling.specs.Tell.{AreFit}
 use Rattle.board_model.specs.Shown.{Shown}
@@ -24,7 +23,7 @@ use Rattle.board_model.specs.Stretch.{AreSteady, IsAtStep, IsOwnTick, IsQuiet}
 use Rattle.tlb_course.specs.Further.{WorldsGoOn}
 use Rattle.aegis_calls.specs.QuietTicks.{AreQuietTicks, AreSteadyTicks}
 use Rattle.told_run.specs.Progress.{Progress}
-use Rattle.feed_run.specs.Whole.{AreComing, AreUnread, IsBetween, IsBoardOf, WentPlain}
+use Rattle.feed_run.specs.Whole.{AreUnread, IsBetween, WentPlain}
 use Rattle.feed_run.proofs.OwnTick.{own_tick}
 use Rattle.feed_run.proofs.Unread.{unread_more}
 

@@ -1,7 +1,6 @@
 -- What is taken, page by page.
-use Rattle.std.proofs.Common.{◌≡◌, ◌≢◌, ◌<◌, ◌+◌, ℕ, zero, suc, List, [], ◌∷◌, ◌++◌, length, map, take, drop, get_or, Bool, true, false, Option, Some, None, refl, sym, ◌∙◌, ap, subst, arith}
-use Rattle.std.specs.Prelude.{◌==◌, IfSome, slice_get}
-use Rattle.std.specs.List.{list_any}
+use Rattle.std.proofs.Common.{◌≡◌, ◌≢◌, ◌<◌, ◌+◌, ℕ, zero, suc, List, [], ◌∷◌, ◌++◌, length, map, take, get_or, true, Option, Some, None, refl, sym, ◌∙◌, ap, arith}
+use Rattle.std.specs.Prelude.{IfSome, slice_get}
 use Rattle.std.proofs.lemmas.Bool.{eq-eqb}
 use Rattle.std.proofs.lemmas.List.{map-append, take_more}
 use Rattle.page_book.specs.declared.row.PageRow.{PageRow}
@@ -11,11 +10,11 @@ use Rattle.page_book.specs.Rows.{row_in}
 use Rattle.revocation_book.specs.declared.revocation.Taking.{Taking}
 use Rattle.revocation_book.specs.Backups.{is_loaded}
 use Rattle.revocation_book.specs.RevocationBook.{backups_at}
-use Rattle.revocation_book.specs.Takings.{AreTakable, IsTakable, taken}
+use Rattle.revocation_book.specs.Takings.{AreTakable, IsTakable}
 use Rattle.world_model.specs.Call.{any}
 use Rattle.world_model.specs.Deadlines.{takes}
 use Rattle.world_model.specs.PageCalls.{revocations}
-use Rattle.world_model.specs.World.{World, Reply, after}
+use Rattle.world_model.specs.World.{World, after}
 use Rattle.board_model.specs.Shown.{Shown}
 use Rattle.board_model.specs.Showing.{world_of}
 use Rattle.board_model.specs.Sound.{IsSoundBoard}

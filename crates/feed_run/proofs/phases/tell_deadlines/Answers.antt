@@ -1,12 +1,10 @@
 -- Each turn of the loop tells one taking more; behind all of them the deadlines are over.
-use Rattle.std.proofs.Common.{◌≡◌, ◌+◌, ℕ, ◌∷◌, [], ◌++◌, List, length, map, take, drop, arith, sym, ◌∙◌, ap, subst}
+use Rattle.std.proofs.Common.{◌≡◌, ◌+◌, ℕ, ◌∷◌, [], List, length, map, take, drop, arith, sym, ◌∙◌, ap, subst}
 use Rattle.std.proofs.Math.Seq.{take-length}
-use Rattle.std.proofs.lemmas.List.{append-nil}
 use Rattle.board_model.specs.Shown.{Shown}
 use Rattle.board_model.specs.Showing.{world_of}
 use Rattle.revocation_book.specs.declared.revocation.Taking.{Taking}
 use Rattle.revocation_book.specs.Takings.{AreTakable}
-use Rattle.world_model.specs.Book.{is_idle_book}
 use Rattle.world_model.specs.Deadlines.{settles, takes}
 use Rattle.world_model.specs.PageCalls.{revocations}
 use Rattle.world_model.specs.Tick.{serve_phases}

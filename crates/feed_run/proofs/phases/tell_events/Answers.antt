@@ -1,5 +1,5 @@
 -- Each turn of the loop tells one event more.
-use Rattle.std.proofs.Common.{◌≡◌, ◌+◌, ◌∷◌, [], List, map, take, sym, ◌∙◌, ap, subst}
+use Rattle.std.proofs.Common.{◌≡◌, ◌∷◌, [], List, map, take, ◌∙◌, ap, subst}
 use Rattle.board_model.specs.Shown.{Shown}
 use Rattle.external_event.specs.declared.event.Occurrence.{Occurrence}
 use Rattle.external_event.specs.EventValue.{EventValue}

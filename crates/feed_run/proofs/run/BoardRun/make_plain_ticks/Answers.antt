@@ -1,6 +1,5 @@
 -- The ticks of the stretch are steps of the environment, which are told.
-use Rattle.std.proofs.Common.{◌≡◌, ◌≤◌, ◌<◌, ◌+◌, ℕ, Bool, true, false, refl, ◌∙◌, ap, subst, sym, arith}
-use Rattle.std.specs.Prelude.{not}
+use Rattle.std.proofs.Common.{◌≡◌, ◌+◌, ℕ, true, refl, ◌∙◌, subst, sym, arith}
 use Rattle.external_event.specs.Order.{are_in_order}
 use Rattle.world_model.specs.Event.{schedule_of}
 use Rattle.board_model.specs.Stretch.{IsQuiet}

@@ -1,10 +1,8 @@
 -- The tick is the next one of the run, and what it gives is told.
-use Rattle.std.proofs.Common.{◌≡◌, ◌+◌, ◌-◌, ℕ, List, length, Bool, true, ◌∙◌, ap, sym, subst, arith}
-use Rattle.std.specs.Prelude.{if◌then◌else◌}
-use Rattle.external_event.specs.EventValue.{EventValue}
+use Rattle.std.proofs.Common.{◌≡◌, ◌+◌, ◌-◌, ℕ, List, length, true, ◌∙◌, ap, sym, subst, arith}
 use Rattle.external_event.specs.Order.{are_in_order}
 use Rattle.world_model.specs.Event.{schedule_of}
-use Rattle.aegis_tick.specs.Course.{AreLater, occurrences}
+use Rattle.aegis_tick.specs.Course.{AreLater}
 use Rattle.item_views.specs.Views.{ItemSeen}
 use Rattle.run_model.specs.Run.{feed}
 use Rattle.feed_run.specs.Whole.{IsBetween, progress_of, system_of}
