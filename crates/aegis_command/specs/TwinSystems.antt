@@ -38,8 +38,8 @@ pub record FileNames : Type 0 where
 abbrev pub meant : ImageValue → List EventValue → System
 meant image events = record { image = image; schedule = schedule_of events }
 
-abbrev pub system_of : (image schedule : List ℕ) → System
-system_of image schedule = meant (image_of image) (events_of schedule)
+abbrev pub meant_by : (image schedule : List ℕ) → System
+meant_by image schedule = meant (image_of image) (events_of schedule)
 
 -- an answer is found something, unless it is that both are the same
 abbrev pub answer_due : ℕ → TwinAnswer → Due
@@ -56,7 +56,7 @@ twin_due left right e n image schedule other other_schedule =
     ∷ schedule_refused left.schedule (schedule_fault schedule)
     ∷ image_refused right.image (image_fault other)
     ∷ schedule_refused right.schedule (schedule_fault other_schedule) ∷ [])
-    (answer_on (system_of image schedule) (system_of other other_schedule) e n)
+    (answer_on (meant_by image schedule) (meant_by other other_schedule) e n)
 
 abbrev pub twin_systems : (left right : FileNames) → ℕ → ℕ → CommandValue
 twin_systems left right e n = record {

@@ -24,9 +24,6 @@ items_append (p ∷ ps) qs w e =
     append_assoc ((p w).items e) ((in_turn ps v).items e) ((in_turn qs (run_phases v ps)).items e)
     ∙ ap (λ (xs : List Item). (p w).items e ++ xs) (items_append ps qs v e)
 
-pub none_told : (e : ℕ) (w : World) (log : List ItemSeen) → PhasesTold e [] w w log log
-none_told e w log = record { world = refl; told = record { log = sym (append-nil log); fit = tt } }
-
 pub nothing_told : (log : List ItemSeen) → AreTold log log []
 nothing_told log = record { log = sym (append-nil log); fit = tt }
 

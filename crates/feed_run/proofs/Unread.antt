@@ -3,7 +3,7 @@ use Rattle.std.proofs.Common.{Option, Some, None, ◌≡◌, ◌≤◌, ◌<◌,
 use Rattle.std.specs.Prelude.{◌||◌, MatchOption}
 use Rattle.std.specs.List.{list_any}
 use Rattle.std.proofs.Math.ListN.{drop_of_length-le}
-use Rattle.std.proofs.lemmas.List.{drop-append-le, drop-drop, length-append, length-drop, length-map, map-append}
+use Rattle.std.proofs.lemmas.List.{drop-append-le, length-append, length-map, map-append}
 use Rattle.world_model.specs.Item.{Item, Boot, Step, Start, End, Transfer, Killed, Answer, Gained, Lost, Left, Packet, Line, Asked, Taken}
 use Rattle.item_views.specs.Views.{AlikeWhereShownAlike, IsFit, ItemSeen, item_seen}
 use Rattle.feed_log.specs.Log.{StandsFirst, begins_seen, shown}
@@ -33,21 +33,6 @@ unread_more xs ys log unread fit =
           ∙ ap (drop k) (sym (map-append item_seen xs ys))
           ∙ ap (λ n. drop n (map item_seen (xs ++ ys))) (sym same);
       fit = both_fit xs ys unread.fit fit;
-    }
-
--- so many are read
-pub unread_less : (xs : List Item) (log : List ItemSeen) (count : ℕ) → AreUnread xs log → count ≤ length log
-    → AreUnread xs (drop count log)
-unread_less xs log count unread within =
-    let k = length xs - length log in
-    let few = unread.few in
-    let left : length (drop count log) ≡ length log - count = length-drop count log in
-    let same : length xs - length (drop count log) ≡ k + count = omega (arith, few, left, within) in
-    let other : k + count ≡ length xs - length (drop count log) = sym same in
-    record {
-      few = omega (arith, few, left);
-      last = ap (drop count) unread.last ∙ drop-drop count k (map item_seen xs) ∙ ap (λ n. drop n (map item_seen xs)) other;
-      fit = unread.fit;
     }
 
 -- a slice begins with an item as it is shown where it begins with the item
