@@ -1,18 +1,22 @@
 -- What is taken, page by page.
-use Rattle.std.proofs.Common.{◌≡◌, ◌≢◌, ◌<◌, ◌+◌, ℕ, zero, suc, List, [], ◌∷◌, ◌++◌, length, map, take, get_or, true, Option, Some, None, refl, sym, ◌∙◌, ap, arith}
-use Rattle.std.specs.Prelude.{IfSome, slice_get}
-use Rattle.std.proofs.lemmas.Bool.{eq-eqb}
+use Rattle.std.specs.List.{list_any}
+use Rattle.std.proofs.Common.{◌≡◌, ◌≢◌, ◌<◌, ◌+◌, ℕ, zero, suc, List, [], ◌∷◌, ◌++◌, length, map, take, get_or, true, Option, Some, None, refl, sym, ◌∙◌, ap, arith, false, Bool, slice_index_or}
+use Rattle.std.specs.Prelude.{IfSome, slice_get, if◌then◌else◌}
+use Rattle.std.proofs.lemmas.Bool.{eq-eqb, or_parts}
+use Rattle.std.proofs.lemmas.Grind.{common_steps}
 use Rattle.std.proofs.lemmas.List.{map-append, take_more}
 use Rattle.page_book.specs.declared.row.PageRow.{PageRow}
 use Rattle.page_book.specs.declared.row.PageRow.TheVariants.{Free, Guaranteed, Owned}
 use Rattle.page_book.specs.Row.{is_owned_by}
 use Rattle.page_book.specs.Rows.{row_in}
 use Rattle.revocation_book.specs.declared.revocation.Taking.{Taking}
+use Rattle.revocation_book.specs.declared.revocation.Pending.{Pending}
+use Rattle.revocation_book.specs.Pending.{is_due}
 use Rattle.revocation_book.specs.Backups.{is_loaded}
-use Rattle.revocation_book.specs.RevocationBook.{backups_at}
-use Rattle.revocation_book.specs.Takings.{AreTakable, IsTakable}
+use Rattle.revocation_book.specs.RevocationBook.{backups_at, is_any_due}
+use Rattle.revocation_book.specs.Takings.{AreTakable, IsTakable, Books, paired, takings_below, takings_of, victims}
 use Rattle.world_model.specs.Call.{any}
-use Rattle.world_model.specs.Deadlines.{takes}
+use Rattle.world_model.specs.Deadlines.{takes, takings}
 use Rattle.world_model.specs.PageCalls.{revocations}
 use Rattle.world_model.specs.World.{World, after}
 use Rattle.board_model.specs.Shown.{Shown}
@@ -68,3 +72,16 @@ backup_is_page b x time sound may = by_backup x.backup may.first
         let same = sound.memory.same in
         let most = sound.memory.most in
         λ none. absurd (omega (arith, within, same, most, none))
+
+-- where no deadline has come nothing is taken
+not_due : (list : List (Option Pending)) (time e : ℕ) → list_any (is_due time) list ≡ false → is_due time (slice_index_or list e None) ≡ false
+not_due list time e none = grind (arith, common_steps, or_parts)
+
+none_taken : (books : Books) (time n : ℕ) → ((e : ℕ) → is_due time (books.pending e) ≡ false) → takings_below books time n ≡ []
+none_taken books time zero none = refl
+none_taken books time (suc e) none =
+    (λ k. none_taken books time e none k ++ takings_of books time e)
+    ∙ ap (λ (t : Bool). if t then paired e (victims books e) (books.backups e) else []) (none e)
+
+pub none_due : (b : Shown) → is_any_due b.revocations b.time ≡ false → takings (world_of b) ≡ []
+none_due b none = none_taken (revocations (world_of b).book) b.time (world_of b).count (λ e. not_due b.revocations.pending b.time e none)

@@ -41,7 +41,7 @@ fn tell_events(
 }
 
 /// The deadlines that have come are served, each taking told before it is made.
-fn tell_deadlines(board: &mut Board, log: &mut FeedLog, watched: u8) -> Result<(), OutOfMemory>
+fn tell_takings(board: &mut Board, log: &mut FeedLog, watched: u8) -> Result<(), OutOfMemory>
     requires { SERVE_ROWS ≤ board.old.ledger.spare }
     ensures told { OnOk result (PhasesTold watched (serve_phases (takings (world_of board.old))) (world_of board.old) (world_of board.new) log.old log.new) }
     ensures idle { OnOk result (is_idle_book (world_of board.new).book ≡ is_idle_book (world_of board.old).book) }
@@ -54,6 +54,21 @@ fn tell_deadlines(board: &mut Board, log: &mut FeedLog, watched: u8) -> Result<(
         board.law_sound();
         tell_taking(&BoardFeed::of(board), log, watched, taking)?;
         board.take_page(taking);
+    }
+    board.end_deadlines();
+    Ok(())
+}
+
+/// The same, in a tick of which few have a deadline: where none has come, nothing is taken.
+fn tell_deadlines(board: &mut Board, log: &mut FeedLog, watched: u8) -> Result<(), OutOfMemory>
+    requires { SERVE_ROWS ≤ board.old.ledger.spare }
+    ensures told { OnOk result (PhasesTold watched (serve_phases (takings (world_of board.old))) (world_of board.old) (world_of board.new) log.old log.new) }
+    ensures idle { OnOk result (is_idle_book (world_of board.new).book ≡ is_idle_book (world_of board.old).book) }
+    ensures same { OnOk result (IsSameTick board.old board.new) }
+    ensures room { OnOk result (board.old.ledger.spare ≤ board.new.ledger.spare + SERVE_ROWS) }
+{
+    if board.revocations().is_due(board.time()) {
+        return tell_takings(board, log, watched);
     }
     board.end_deadlines();
     Ok(())

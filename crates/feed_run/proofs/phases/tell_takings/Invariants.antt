@@ -6,7 +6,7 @@ use Rattle.world_model.specs.Book.{is_idle_book}
 use Rattle.world_model.specs.Deadlines.{takes}
 use Rattle.world_model.specs.PageCalls.{revocations}
 use Rattle.feed_run.specs.Phases.{PhasesTold}
-use Rattle.feed_run.proofs.phases.tell_deadlines.Given as goal
+use Rattle.feed_run.proofs.phases.tell_takings.Given as goal
 
 abbrev pub invariant-loop-place : goal.invariant-loop-place
 invariant-loop-place l = record {
