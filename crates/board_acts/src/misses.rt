@@ -1,15 +1,67 @@
 //! What the kernel does about a miss of the TLB.
 ghost use Rattle.std.specs.Prelude.{◌≡◌, ◌<◌, IfSome, is_some};
+ghost use Rattle.std.specs.Option.{option_map};
 ghost use Rattle.aegis_limits.specs.Limits.{environment_numbers};
+ghost use Rattle.env_frames.specs.Frame.{mapping_at};
 ghost use Rattle.guest_memory.specs.Space.{lookup};
 ghost use Rattle.r3k_tlb.specs.Row.{page_numbers};
 ghost use Rattle.r3k_tlb.specs.Rows.{row_count};
 ghost use Rattle.board_model.specs.Refilling.{fills_after_miss, fills_after_refill, is_kept_by, rows_after_miss};
 
 use aegis_limits::ENVIRONMENT_NUMBERS;
+use bind_book::Binding;
+use env_frames::{Env, Mapping};
 use guest_memory::Space;
 use r3k_tlb::{Tlb, hi_word, lo_word};
 use tlb_model::Fills;
+
+/// What a miss is answered from: a mapping, and whether it is a guaranteed one.
+#[derive(Clone, Copy)]
+struct Source {
+    mapping: Mapping,
+    is_guaranteed: bool,
+}
+
+/// The guaranteed mapping of a VPN, if there is one: at its distance from the first, where mappings stand one behind
+/// another, without a search.
+#[inline(always)]
+fn guaranteed(env: &Env, vpn: u32) -> Option<Mapping>
+    ensures { result ≡ mapping_at env.now.mappings vpn }
+{
+    let mappings = env.mappings();
+    if mappings.is_empty() {
+        return None;
+    }
+    let distance = vpn.wrapping_sub(mappings[0].vpn) as usize;
+    if distance < mappings.len() && mappings[distance].vpn == vpn {
+        return Some(mappings[distance]);
+    }
+    env.guaranteed(vpn)
+}
+
+/// What a miss at a VPN is answered from: its guaranteed mapping, else its binding.
+#[tactic(auto, unfolding(guest_memory::specs::Space::lookup))]
+#[inline(always)]
+fn source_of(space: &Space<'_>, vpn: u32) -> Option<Source>
+    ensures mapping { option_map (λ s. s.mapping) result ≡ lookup space.now vpn }
+    ensures kept { IfSome result (λ s. s.is_guaranteed ≡ is_kept_by space.now.mappings vpn) }
+{
+    if let Some(mapping) = guaranteed(space.env, vpn) {
+        return Some(Source {
+            mapping,
+            is_guaranteed: true,
+        });
+    }
+    let Binding { page, writable, .. } = space.bindings.find(space.number, vpn)?;
+    Some(Source {
+        mapping: Mapping {
+            vpn,
+            page,
+            writable,
+        },
+        is_guaranteed: false,
+    })
+}
 
 /// Refills a row by the mapping of a VPN at which an environment had a miss, and counts it. The result is whether the VPN
 /// has a mapping; where it has none, nothing changes.
@@ -30,10 +82,11 @@ pub fn refill(
     ensures fills { fills.new ≡ fills_after_refill (is_kept_by space.now.mappings vpn) space.now.number (lookup space.now vpn) fills.old }
 {
     let env = space.number;
-    let Some(mapping) = space.mapping(vpn) else {
+    let Some(source) = source_of(space, vpn) else {
         return false;
     };
-    fills[usize::from(env)].count_refill(space.env.guaranteed(vpn).is_some());
+    let mapping = source.mapping;
+    fills[usize::from(env)].count_refill(source.is_guaranteed);
     tlb.write(
         row,
         hi_word(mapping.vpn, env),
