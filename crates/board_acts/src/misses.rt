@@ -65,8 +65,7 @@ fn source_of(space: &Space<'_>, vpn: u32) -> Option<Source>
 
 /// Refills a row by the mapping of a VPN at which an environment had a miss, and counts it. The result is whether the VPN
 /// has a mapping; where it has none, nothing changes.
-#[cold]
-#[inline(never)]
+#[inline(always)]
 pub fn refill(
     tlb: &mut Tlb,
     fills: &mut [Fills; ENVIRONMENT_NUMBERS],
@@ -97,6 +96,8 @@ pub fn refill(
 
 /// Refills the row that Random named by the mapping of a VPN at which an environment had a miss, and counts it; where the
 /// VPN has none, the miss is counted as forwarded. The result is whether a row was refilled.
+#[cold]
+#[inline(never)]
 pub fn answer_miss(
     tlb: &mut Tlb,
     fills: &mut [Fills; ENVIRONMENT_NUMBERS],
