@@ -1,3 +1,6 @@
+mod DigitLemmas
 mod FormLemmas
 mod Order
 mod PacketLemmas
+mod PieceLemmas
+mod SaidLemmas

@@ -1,5 +1,6 @@
 pub mod Answers
 pub mod Forms
 pub mod Names
+pub mod Pieces
 pub mod Saying
 pub mod Schedule

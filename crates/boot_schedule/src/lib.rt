@@ -4,9 +4,11 @@
 //! the order of `docs/FORMATS.md`, "Schedule", and with its line.
 #![tactic(auto)]
 
+mod digits;
 mod fault;
 mod laws;
 mod packet_line;
+mod pieces;
 mod ranges;
 mod reading;
 mod statement;
