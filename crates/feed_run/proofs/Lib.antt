@@ -4,4 +4,5 @@ mod Unread
 mod Ticked
 mod Passing
 mod OwnTick
+mod OthersTick
 mod Plain

@@ -1,4 +1,4 @@
--- What a plain tick of an environment gives it: that it steps.
+-- A plain tick: what it leads to and gives, and that it gives the runner its step.
 use Rattle.std.proofs.Common.{◌≡◌, ◌≤◌, ◌<◌, ◌+◌, ℕ, List, [], ◌∷◌, ◌++◌, length, map, Bool, false, Option, Some, None, refl, sym, ◌∙◌, ap, subst, arith, rules}
 use Rattle.std.specs.Prelude.{◌&&◌, is_none}
 use Rattle.std.proofs.lemmas.Bool.{eq-eqb, ne_eqb}
@@ -16,7 +16,7 @@ use Rattle.world_model.specs.Solo.{Key, Kept, Physical}
 use Rattle.world_model.specs.Step.{Act, Nothing, Stores, Calls, Raises, Dies}
 use Rattle.world_model.specs.Tick.{act_now, act_reply, count_when, phases_after, serve_phases, step, step_when, timer, turn, turn_when}
 use Rattle.world_model.specs.World.{World, Reply, after, in_turn, no_change, run_phases, tells}
-use Rattle.run_model.specs.Run.{after_phase, next_items}
+use Rattle.run_model.specs.Run.{after_phase, next_items, next_world}
 use Rattle.run_model.proofs.Phases.{after_no_change}
 use Rattle.board_model.specs.Stretch.{IsAtStep, IsOwnAct, IsOwnTick}
 
@@ -91,27 +91,72 @@ counted : (w : World) (o : Option Runner) (i : ℕ) → 1 < left_of o → (count
 counted w None i more = absurd (omega (arith, more))
 counted w (Some r) i more = rw (ne_eqb r.left 1 (λ one. omega (arith, more, one))) refl
 
-timed : (w : World) (i : ℕ) → 1 < left_of w.book.runner → (timer w).items i ≡ []
+counted_binds : (w : World) (o : Option Runner) → 1 < left_of o → (count_when o w).book.binds ≡ w.book.binds
+counted_binds w None more = absurd (omega (arith, more))
+counted_binds w (Some r) more = rw (ne_eqb r.left 1 (λ one. omega (arith, more, one))) refl
+
+counted_pages : (w : World) (o : Option Runner) → 1 < left_of o → (count_when o w).book.pages ≡ w.book.pages
+counted_pages w None more = absurd (omega (arith, more))
+counted_pages w (Some r) more = rw (ne_eqb r.left 1 (λ one. omega (arith, more, one))) refl
+
+pub timed : (w : World) (i : ℕ) → 1 < left_of w.book.runner → (timer w).items i ≡ []
 timed w i more = ap (λ (xs : List Item). xs ++ []) (counted w w.book.runner i more)
 
 -- where somebody runs a world isn't idle
 busy : (o : Option Runner) (nobody : Bool) (e : ℕ) → running o ≡ Some e → (is_none o && nobody) ≡ false
 busy o nobody e runs = search rules
 
-pub own_tick : (schedule : Schedule) (w : World) (e : ℕ) → schedule w.book.time ≡ [] → running w.book.runner ≡ Some e → IsAtStep w → IsOwnTick w
-    → next_items schedule w e ≡ Step ∷ []
-own_tick schedule w e quiet runs at own =
-    let goes : is_idle_book w.book ≡ false = busy w.book.runner _ e runs in
-    let none : takings w ≡ [] = none_taken (takings w) w at in
-    let served : after w (settles w) ≡ w = settled w e runs (subst (λ (xs : List Taking). after_phase turn (run_phases w (serve_phases xs)) ≡ w) none at) in
-    let act = own.acts e runs in
-    let more = own.more in
-    let kept = same_book w w.book.runner e runs act in
-    let lasts : 1 < left_of (after w (step w)).book.runner = subst (λ (n : ℕ). 1 < n) (ap (λ (b : Book). left_of b.runner) (sym kept)) more in
-    let rest = step ∷ timer ∷ [] in
-    rw goes (ap (λ (xs : List Occurrence). (in_turn (phases_after xs (takings (run_phases w (map happen xs)))) w).items e) quiet)
-    ∙ ap (λ (xs : List Taking). (in_turn (phases_after [] xs) w).items e) none
-    ∙ ap (λ (u : World). (in_turn (turn ∷ rest) u).items e) served
-    ∙ ap (λ (r : Reply). r.items e ++ (in_turn rest (after w r)).items e) (on_turn w w.book.runner e runs)
-    ∙ ap (λ (u : World). (in_turn rest u).items e) (after_no_change w)
-    ∙ (λ i. stepped w w.book.runner e runs act i ++ (timed (after w (step w)) e lasts i ++ []))
+-- the phases of a plain tick that do something
+abbrev pub plain_phases : List (World → Reply)
+plain_phases = step ∷ timer ∷ []
+
+module _ (schedule : Schedule) (w : World) (r : ℕ) (quiet : schedule w.book.time ≡ []) (runs : running w.book.runner ≡ Some r) (at : IsAtStep w) where
+  goes : is_idle_book w.book ≡ false
+  goes = busy w.book.runner _ r runs
+
+  pub nothing_due : takings w ≡ []
+  nothing_due = none_taken (takings w) w at
+
+  served : after w (settles w) ≡ w
+  served = settled w r runs (subst (λ (xs : List Taking). after_phase turn (run_phases w (serve_phases xs)) ≡ w) nothing_due at)
+
+  pub plain_world : next_world schedule w ≡ run_phases w plain_phases
+  plain_world =
+      rw goes (ap (λ (xs : List Occurrence). run_phases w (phases_after xs (takings (run_phases w (map happen xs))))) quiet)
+      ∙ ap (λ (xs : List Taking). run_phases w (phases_after [] xs)) nothing_due
+      ∙ ap (λ (u : World). run_phases u (turn ∷ plain_phases)) served
+      ∙ ap (λ (reply : Reply). run_phases (after w reply) plain_phases) (on_turn w w.book.runner r runs)
+      ∙ ap (λ (u : World). run_phases u plain_phases) (after_no_change w)
+
+  pub plain_items : (e : ℕ) → next_items schedule w e ≡ (in_turn plain_phases w).items e
+  plain_items e =
+      rw goes (ap (λ (xs : List Occurrence). (in_turn (phases_after xs (takings (run_phases w (map happen xs)))) w).items e) quiet)
+      ∙ ap (λ (xs : List Taking). (in_turn (phases_after [] xs) w).items e) nothing_due
+      ∙ ap (λ (u : World). (in_turn (turn ∷ plain_phases) u).items e) served
+      ∙ ap (λ (reply : Reply). reply.items e ++ (in_turn plain_phases (after w reply)).items e) (on_turn w w.book.runner r runs)
+      ∙ ap (λ (u : World). (in_turn plain_phases u).items e) (after_no_change w)
+
+  module _ (own : IsOwnTick w) where
+    kept : (step w).book ≡ w.book
+    kept = same_book w w.book.runner r runs (own.acts r runs)
+
+    pub lasts : 1 < left_of (after w (step w)).book.runner
+    lasts = subst (λ (n : ℕ). 1 < n) (ap (λ (b : Book). left_of b.runner) (sym kept)) own.more
+
+    -- it binds nothing, and no page has another owner
+    pub same_binds : (next_world schedule w).book.binds ≡ w.book.binds
+    same_binds =
+        ap (λ (u : World). u.book.binds) plain_world
+        ∙ counted_binds (after w (step w)) (after w (step w)).book.runner lasts
+        ∙ ap (λ (b : Book). b.binds) kept
+
+    pub same_pages : (next_world schedule w).book.pages ≡ w.book.pages
+    same_pages =
+        ap (λ (u : World). u.book.pages) plain_world
+        ∙ counted_pages (after w (step w)) (after w (step w)).book.runner lasts
+        ∙ ap (λ (b : Book). b.pages) kept
+
+    pub own_tick : next_items schedule w r ≡ Step ∷ []
+    own_tick =
+        plain_items r
+        ∙ (λ i. stepped w w.book.runner r runs (own.acts r runs) i ++ (timed (after w (step w)) r lasts i ++ []))

@@ -1,2 +1,3 @@
 pub mod Phases
+pub mod Reach
 pub mod Whole

@@ -3,6 +3,7 @@
 #![tactic(auto)]
 
 mod phases;
+mod reach;
 mod run;
 mod ticks;
 

@@ -5,10 +5,12 @@ ghost use Rattle.world_model.specs.Book.{is_idle_book, is_runner};
 ghost use Rattle.board_model.specs.Showing.{world_of};
 
 use crate::phases::tell_tick;
+use crate::reach::is_out_of_reach;
 use crate::run::BoardRun;
 use aegis_limits::{MOST_TICKS, OutOfMemory};
 use aegis_tick::{due_and_later, quiet_ticks};
 use run_model::law_time;
+use sharing_law::law_stores;
 use tlb_course::law_further;
 use world_model::WorldView;
 
@@ -55,7 +57,8 @@ impl BoardRun<'_, '_, '_> {
         Ok(has_ended)
     }
 
-    /// Makes plain ticks of the environment in which nothing happens but its steps, as long as it runs, and tells these.
+    /// Makes plain ticks, in which nothing happens but the runner's steps: the environment's own, which are told as steps,
+    /// or those of another that may store to no page that it sees, of which nothing is told.
     pub(crate) fn make_plain_ticks(&mut self) -> Result<(), OutOfMemory>
         requires { IsWholeRun self.old }
         ensures went { OnOk result (WentPlain (progress_of self.old) (progress_of self.new)) }
@@ -63,12 +66,20 @@ impl BoardRun<'_, '_, '_> {
     {
         law_time();
         law_further();
-        if !self.is_running() {
+        law_stores();
+        let Some(runner) = self.board.runner() else {
+            return Ok(());
+        };
+        let is_own = runner == self.watched;
+        if !is_own && !is_out_of_reach(&self.board, runner, self.watched) {
             return Ok(());
         }
         let time = self.board.time();
         let quiet = quiet_ticks(self.coming, time, MOST_TICKS - time);
         let steps = self.board.stretch(quiet);
-        self.log.push_steps(steps)
+        if is_own {
+            self.log.push_steps(steps)?;
+        }
+        Ok(())
     }
 }

@@ -1,5 +1,5 @@
 -- Where no deadline has come nothing is taken.
-use Rattle.std.proofs.Common.{◌≡◌, [], ◌∷◌, List, false, subst, sym, ◌∙◌}
+use Rattle.std.proofs.Common.{◌≡◌, List, false, subst, sym, ◌∙◌}
 use Rattle.board_model.specs.Showing.{world_of}
 use Rattle.revocation_book.specs.declared.revocation.Taking.{Taking}
 use Rattle.revocation_book.specs.RevocationBook.{is_any_due}
