@@ -70,7 +70,7 @@ fn tell_deadlines(board: &mut Board, log: &mut FeedLog, watched: u8) -> Result<(
     if board.revocations().is_due(board.time()) {
         return tell_takings(board, log, watched);
     }
-    board.end_deadlines();
+    board.serve();
     Ok(())
 }
 
