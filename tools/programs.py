@@ -38,7 +38,8 @@ LINT = tool("lint")
 COMPILER = "mipsel-linux-gnu-gcc"
 # What a compiler or linker of C lacks here, and why.
 LACKING = (
-    (r"(?:stdio|stdlib|string|math|unistd|time|errno|assert|ctype)\.h\b|undefined reference to .(?:\w*printf|puts|putchar|scanf|malloc|free|exit|strlen|strcmp)\b",
+    (r"(?:stdio|stdlib|string|math|unistd|time|errno|assert|ctype)\.h\b"
+     r"|undefined reference to .(?:\w*printf|puts|putchar|scanf|malloc|free|exit|strlen|strcmp)\b",
      "There is no C library: `#include \"aegis.h\"` has print, print_number and the kernel calls, and `examples/c/README.md` says what else there is."),
     (r"undefined reference to .__\w*[sd]f\w*",
      "There is no floating point: the machine has no unit for it, and nothing here computes it. Count in whole parts, such as thousandths."),
@@ -303,7 +304,8 @@ def bad_image(shown: str, lines: List[str], why: str, place: int, made_of: List[
     these programs, by the program."""
     if why in refusals.MANIFEST:
         text = lines[place - 1] if place <= len(lines) else ""
-        due = "version N`, which may be left out, `pages N`, `quantum N`, `slots X ..`, and then `env NAME elf STACK ACCEPT FILE` or `env NAME flat BASE STACK ACCEPT FILE"
+        due = "version N`, which may be left out, `pages N`, `quantum N`, `slots X ..`, and then `env NAME elf STACK ACCEPT FILE` " \
+              "or `env NAME flat BASE STACK ACCEPT FILE"
         early = "" if text.strip() else "The manifest ends too early. "
         advice = {"Syntax": f"{early}The lines are, in this order, `{due}`.",
                   "Range": f"Numbers are decimal or begin with `0x`; `version` is 1 or 2; `pages` is at least {LEAST_PAGES}, and at most "

@@ -89,7 +89,8 @@ PAGE = r"""<!DOCTYPE html>
 @media (prefers-color-scheme: dark) { :root { --ground: #15181c; --card: #1d2126; --ink: #e6e4df; --faint: #9aa3ad; --edge: #363c44; --now: #4a3f12;
   --nowink: #fff6d5; --new: #8cc4ff; --newground: #16324d; --kernel: #ffb27a; --bad: #ff8a9a; } }
 * { box-sizing: border-box; }
-body { margin: 0; background: var(--ground); color: var(--ink); font: 15px/1.45 system-ui, sans-serif; height: 100vh; display: grid; grid-template-rows: auto 1fr; }
+body { margin: 0; background: var(--ground); color: var(--ink); font: 15px/1.45 system-ui, sans-serif;
+  height: 100vh; display: grid; grid-template-rows: auto 1fr; }
 header { padding: 10px 16px; border-bottom: 1px solid var(--edge); }
 h1 { font-size: 17px; margin: 0 0 6px; }
 h2 { font-size: 13px; margin: 0; padding: 7px 12px; color: var(--faint); font-weight: 600; border-bottom: 1px solid var(--edge); }
@@ -127,7 +128,8 @@ kbd { border: 1px solid var(--edge); border-radius: 4px; padding: 0 4px; font: 1
 <header>
 <h1>@TITLE@</h1>
 <div class="bar">
-<button id="first" title="to the start (Home)" aria-label="to the start">|&lt;</button><button id="back" title="a step back (left)" aria-label="a step back">&lt;</button>
+<button id="first" title="to the start (Home)" aria-label="to the start">|&lt;</button
+  ><button id="back" title="a step back (left)" aria-label="a step back">&lt;</button>
 <input id="slide" type="range" min="0" value="0" aria-label="step"><button id="next" title="a step on (right)" aria-label="a step on">&gt;</button>
 <button id="last" title="to the end (End)" aria-label="to the end">&gt;|</button>
 <button id="callback" title="to the call before (shift C)">call &lt;</button><button id="call" title="to the next call (C)">call &gt;</button>
@@ -148,7 +150,8 @@ a click on a line runs to it, with shift back to it; a click on a register to it
 <script>
 "use strict";
 const data = JSON.parse(document.getElementById("data").textContent), steps = data.steps, every = 256;
-const at = id => document.getElementById(id), make = (tag, name, text) => { const it = document.createElement(tag); it.className = name; it.textContent = text; return it; };
+const at = id => document.getElementById(id);
+const make = (tag, name, text) => { const it = document.createElement(tag); it.className = name; it.textContent = text; return it; };
 const put = (regs, list) => { for (let i = 0; i < list.length; i += 2) regs[list[i]] = list[i + 1]; };
 const hex = value => value === null ? "?" : (value >>> 0).toString(16).padStart(8, "0");
 const kept = [];
@@ -173,7 +176,8 @@ let lines = [];
 function show(number) {
   if (file === number || !data.files[number]) return;
   file = number; lines = []; at("file").textContent = data.files[number][0]; at("source").replaceChildren();
-  data.files[number][1].forEach((text, i) => { const line = make("div", "line" + (ran[number].has(i + 1) ? " ran" : ""), ""); line.append(make("b", "", i + 1), text);
+  data.files[number][1].forEach((text, i) => {
+    const line = make("div", "line" + (ran[number].has(i + 1) ? " ran" : ""), ""); line.append(make("b", "", i + 1), text);
     line.onclick = event => seek(step => { const spot = data.spots[step[1]]; return spot[2] === number && spot[3] === i + 1; }, event.shiftKey);
     at("source").append(line); lines.push(line); });
 }
@@ -192,7 +196,8 @@ function go(to) {
     const spot = data.spots[step[1]];
     where.append(`step ${done} of ${steps.length}, tick ${step[0]}: ${spot[0]} ${spot[1]}  ${spot[4]}  `);
     if (step[5]) where.append(make("span", "told" + (step[7] ? " bad" : ""), step[5] + " "));
-    if (step[3].length) where.append(make("span", "kernel", "before it the kernel set " + data.names.filter((_, i) => step[3].some((it, at) => at % 2 === 0 && it === i)).join(" ")));
+    if (step[3].length) where.append(make("span", "kernel", "before it the kernel set "
+      + data.names.filter((_, i) => step[3].some((it, at) => at % 2 === 0 && it === i)).join(" ")));
     if (spot[3]) { show(spot[2]); marked = lines[spot[3] - 1]; }
     if (marked) { marked.classList.add("now"); const pane = at("source"), top = marked.offsetTop - pane.offsetTop;
       if (top < pane.scrollTop + 20 || top > pane.scrollTop + pane.clientHeight - 60) pane.scrollTop = top - pane.clientHeight / 3; }
@@ -204,14 +209,16 @@ function go(to) {
   at("console").textContent = data.console.slice(0, step ? step[4] : 0);
   at("console").scrollTop = at("console").scrollHeight;
   let last = null;
-  calls.forEach(([place, line]) => { line.classList.toggle("later", place > done); line.classList.toggle("now", place === done); if (place <= done) last = line; });
+  calls.forEach(([place, line]) => { line.classList.toggle("later", place > done); line.classList.toggle("now", place === done);
+    if (place <= done) last = line; });
   if (last) { const pane = at("calls"), top = last.offsetTop - pane.offsetTop; if (top < pane.scrollTop || top > pane.scrollTop + pane.clientHeight - 30)
     pane.scrollTop = top - pane.clientHeight / 2; }
 }
 at("slide").max = steps.length;
 at("slide").oninput = event => go(+event.target.value);
 const isCall = step => step[6];
-const words = { first: () => go(0), back: () => go(done - 1), next: () => go(done + 1), last: () => go(steps.length), call: () => seek(isCall, false), callback: () => seek(isCall, true) };
+const words = { first: () => go(0), back: () => go(done - 1), next: () => go(done + 1), last: () => go(steps.length),
+  call: () => seek(isCall, false), callback: () => seek(isCall, true) };
 for (const name in words) at(name).onclick = words[name];
 document.onkeydown = event => {
   if (event.ctrlKey || event.metaKey || event.altKey) return;

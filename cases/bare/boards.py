@@ -106,7 +106,8 @@ class Board:
 
     def plain(self) -> List[int]:
         chance = self.chance
-        return chance.choice(([SYSCALL], [RFE], [addiu(self.some(), self.some(), 1)], [immediate(4, 0, 0, 1), chance.choice((NOP, SYSCALL, RFE, mfc0(9, RANDOM)))],
+        return chance.choice(([SYSCALL], [RFE], [addiu(self.some(), self.some(), 1)],
+                              [immediate(4, 0, 0, 1), chance.choice((NOP, SYSCALL, RFE, mfc0(9, RANDOM)))],
                               [0x42000000 | chance.randrange(1 << 11)], [0x44000000], [chance.randrange(1 << 32)]))
 
     def leave(self) -> List[int]:

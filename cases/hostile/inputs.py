@@ -231,7 +231,7 @@ def words_input(chance: random.Random, pools: Pools) -> Input:
 
 
 INPUTS: List[Callable[[random.Random, Pools], Input]] = [run_input, run_input, asm_input, list_input, image_input, audit_input, bare_input, wire_input,
-                                                               twin_input]
+                                                         twin_input]
 
 
 def drawn_input(number: int, pools: Pools) -> Input:

@@ -35,7 +35,7 @@ Item = Tuple[Union[str, int, bytes, None], ...]
 class Page:
     """A page of physical memory: who owns it, if anybody, whether it is guaranteed, its words and its bytes."""
 
-    def __init__(self):
+    def __init__(self) -> None:
         self.release()
         self.data = bytearray(PAGE)
 

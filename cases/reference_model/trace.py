@@ -31,7 +31,7 @@ def instruction(board: Board, env: Env) -> str:
 class Traces:
     """The lines of each environment, as they come tick by tick."""
 
-    def __init__(self):
+    def __init__(self) -> None:
         self.lines: Dict[int, List[str]] = {}
 
     def finish(self, board: Board) -> None:
