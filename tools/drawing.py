@@ -343,7 +343,16 @@ class Place:
     height: float
     notes: float = 0  # the height that notes take
 
-    MARKS, STRIP = 13, 5
+    MARKS, STRIP, THIN = 13, 5, 2.5
+    LOW = 34  # a lane that is no higher has a thin strip, so that its bars are seen beside it
+
+    @property
+    def is_low(self) -> bool:
+        return self.height - self.notes <= self.LOW
+
+    @property
+    def strip_height(self) -> float:
+        return self.THIN if self.is_low else self.STRIP
 
     @property
     def note(self) -> float:
@@ -359,11 +368,11 @@ class Place:
 
     @property
     def bar_height(self) -> float:
-        return self.height - self.notes - self.MARKS - self.STRIP - 5
+        return self.height - self.notes - self.MARKS - self.strip_height - 5
 
     @property
     def strip(self) -> float:
-        return self.top + self.height - self.STRIP - 2.5
+        return self.top + self.height - self.strip_height - 2.5
 
 
 class Drawing:
@@ -500,7 +509,8 @@ class Drawing:
                 style += " lent"
             if holding.changes > 1:
                 style, says = "mixed", f"{counted(holding.changes, 'row')} own, folded"
-            self.put(f'<path class="strip {style}" d="M{number(self.x(start))} {number(place.strip + place.STRIP / 2)}'
+            style += " thin" if place.is_low else ""
+            self.put(f'<path class="strip {style}" d="M{number(self.x(start))} {number(place.strip + place.strip_height / 2)}'
                      f'h{number((end - start) * self.picture.scale)}"><title>{says}</title></path>')
 
     # Bars and columns
@@ -526,7 +536,7 @@ class Drawing:
         if label != name or picture.by_env:  # a number says no more than the pattern, and in a lane of its own the name doesn't
             label = "" if (lane, piece.env) in self.labelled else label
             self.labelled.add((lane, piece.env))
-        if label and place.bar_height >= 9:
+        if label and place.bar_height >= 11:
             middle = place.bar + place.bar_height * (0.5 if grace > start else 0.72)
             self.put(f'<text class="label l{piece.env}" x="{number(self.x(start) + 5)}" y="{number(middle + 4)}">'
                      f'{label}</text>')

@@ -35,6 +35,7 @@ summary { cursor: pointer; color: var(--soft); }
   font: .74rem ui-monospace, "SF Mono", Menlo, Consolas, "DejaVu Sans Mono", monospace; }
 .registers i { font-style: normal; color: var(--soft); }
 .asked { margin: .2rem 0 0; padding: 0; list-style: none; font-size: .84rem; color: var(--soft); }
+.asked li { padding-left: .8rem; text-indent: -.8rem; }
 .at { margin: .2rem 0 0; font: .78rem/1.35 ui-monospace, "SF Mono", Menlo, Consolas, "DejaVu Sans Mono", monospace;
   white-space: pre-wrap; overflow-wrap: anywhere; }
 """
