@@ -159,7 +159,7 @@ def list_input(chance: random.Random, pools: Pools) -> Input:
 
 def image_input(chance: random.Random, pools: Pools) -> Input:
     text, files = chance.choice(pools.manifests), {}
-    for word in set(text.split()):
+    for word in sorted(set(text.split())):
         if b"." in word and b"/" not in word:
             files[word.decode("latin-1")] = some(chance, pools.elfs if word.endswith(b".elf") else pools.kernels, 0.2)
     files["a.txt"] = drawn(chance, text, pools.manifests) if chance.random() < 0.8 else text
