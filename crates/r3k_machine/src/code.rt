@@ -21,16 +21,6 @@ pub(crate) struct CodePage {
 }
 
 impl CodePage {
-    /// The page of an address that may be fetched from, by a call.
-    #[inline(never)]
-    pub fn of(frames: &Frames, tlb: &Tlb, cp0: &Cp0, address: u32) -> Option<CodePage>
-        ensures code { IfSome result (λ c. IsCode cp0.now tlb.now frames.now c) }
-        ensures has { IfSome result (λ c. has c address ≡ true) }
-        ensures none { IfNone result (IsErr (fetched (row_answers cp0.now tlb.now frames.now) address)) }
-    {
-        CodePage::at(frames, tlb, cp0, address)
-    }
-
     /// The page of an address that may be fetched from.
     #[tactic(auto, unfolding(crate::specs::Memory::row_answers))]
     #[inline(always)]

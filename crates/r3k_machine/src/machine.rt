@@ -237,6 +237,6 @@ impl Machine {
     pub fn fall(&mut self)
         ensures { self.new ≡ record self.old { cp0 = after_attempts 1 self.old.cp0 } }
     {
-        self.cp0.random.fall_times(1);
+        self.cp0.random.fall();
     }
 }

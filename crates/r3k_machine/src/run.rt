@@ -104,7 +104,7 @@ pub(crate) fn run_rows(cpu: &mut Cpu, frames: &mut Frames, tlb: &Tlb, cp0: &Cp0,
     let mut live = Live::of(cpu);
     let mut made = 0;
     while made < most {
-        let Some(code) = CodePage::of(frames, tlb, cp0, live.pc) else {
+        let Some(code) = CodePage::at(frames, tlb, cp0, live.pc) else {
             let wanted = Some(live.pc);
             live.settle();
             return Steps { made, wanted };

@@ -1,5 +1,5 @@
 //! Where an address leads in physical memory, by the rows of the TLB and the mode.
-ghost use Rattle.std.specs.Prelude.{◌≡◌, ◌<◌, IfOk, length};
+ghost use Rattle.std.specs.Prelude.{◌≡◌, ◌<◌, IfOk, None, length};
 ghost use Rattle.r3k_machine.specs.Translation.{address_error, bus_error, is_store, miss, page_by_row, page_by_mode, reached_page};
 
 use aegis_limits::PAGE_SIZE;
@@ -120,8 +120,17 @@ fn reached_page_by_rule(
     }
 }
 
+/// What an access raises that no row serves.
+#[cold]
+#[inline(never)]
+fn missed(kind: AccessKind, va: u32) -> Result<u32, Exc>
+    ensures { result ≡ page_by_row kind va None }
+{
+    Err(Exc::plain(kind.miss()).at(va))
+}
+
 /// The page of physical memory that an access reaches, or what it raises: at once where a row of a user's address
-/// serves it, or where it is the kernel's and goes by no row.
+/// serves it or none fits, or where it is the kernel's and goes by no row.
 #[inline(always)]
 pub(crate) fn reached_page(
     frames: &Frames,
@@ -141,7 +150,8 @@ pub(crate) fn reached_page(
                     && row.page() < frames.pages() => {
                 return Ok(row.page());
             }
-            _ => {}
+            Some(_) => {}
+            None => return missed(kind, va),
         }
     } else if va < DIRECT_END && !cp0.is_user() {
         let page = va % DIRECT_SIZE / PAGE_BYTES;
