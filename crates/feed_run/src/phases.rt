@@ -40,7 +40,10 @@ fn tell_events(
     Ok(())
 }
 
-/// The deadlines that have come are served, each taking told before it is made.
+/// The deadlines that have come are served, each taking told before it is made. Apart from the tick, since it needs room for
+/// a list of pages that few ticks use.
+#[cold]
+#[inline(never)]
 fn tell_takings(board: &mut Board, log: &mut FeedLog, watched: u8) -> Result<(), OutOfMemory>
     requires { SERVE_ROWS ≤ board.old.ledger.spare }
     ensures told { OnOk result (PhasesTold watched (serve_phases (takings (world_of board.old))) (world_of board.old) (world_of board.new) log.old log.new) }
