@@ -3,7 +3,7 @@ ghost use Rattle.std.specs.Prelude.{◌≡◌};
 
 use crate::number::NumberSize;
 use crate::section::Section;
-use line_text::{TableRow, find};
+use line_text::{TableRow, find, table_rows};
 
 /// An operation that is no instruction.
 #[derive(Clone, Copy)]
@@ -25,17 +25,17 @@ pub(crate) enum Directive {
 }
 
 /// The directives by name.
-const DIRECTIVES: [TableRow<Directive>; 10] = [
-    TableRow(b".text", Directive::Enter(Section::Text)),
-    TableRow(b".data", Directive::Enter(Section::Data)),
-    TableRow(b".word", Directive::Numbers(NumberSize::Word)),
-    TableRow(b".half", Directive::Numbers(NumberSize::Half)),
-    TableRow(b".byte", Directive::Numbers(NumberSize::Byte)),
-    TableRow(b".ascii", Directive::Ascii),
-    TableRow(b".asciiz", Directive::Asciiz),
-    TableRow(b".space", Directive::Space),
-    TableRow(b".align", Directive::Align),
-    TableRow(b".equ", Directive::Equ),
+const DIRECTIVES: [TableRow<Directive>; 10] = table_rows![
+    b".text" => Directive::Enter(Section::Text),
+    b".data" => Directive::Enter(Section::Data),
+    b".word" => Directive::Numbers(NumberSize::Word),
+    b".half" => Directive::Numbers(NumberSize::Half),
+    b".byte" => Directive::Numbers(NumberSize::Byte),
+    b".ascii" => Directive::Ascii,
+    b".asciiz" => Directive::Asciiz,
+    b".space" => Directive::Space,
+    b".align" => Directive::Align,
+    b".equ" => Directive::Equ,
 ];
 
 impl Directive {

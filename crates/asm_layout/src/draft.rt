@@ -48,8 +48,8 @@ impl<'a> Draft<'a> {
 
     /// The instruction of a text with these operands. The fault is Syntax or UnknownName.
     pub(crate) fn new(text: Text, operands: &[Arg<'a>]) -> Result<Draft<'a>, AsmWhy>
-        requires small { text.0 < text_word_limit }
-        requires few { length text.1.now ≤ most_operands }
+        requires small { text.word < text_word_limit }
+        requires few { length text.operands.now ≤ most_operands }
         ensures { ok_seen draft_seen result ≡ draft_of (text_seen text) (operands_seen operands.now) }
     {
         let Reading { word, filling } = Reading::of(text, operands)?;

@@ -31,12 +31,15 @@ impl<'a> Reading<'a> {
 
     /// What is read of an instruction with these operands. The fault is Syntax.
     pub(crate) fn of(text: Text, operands: &[Arg<'a>]) -> Result<Reading<'a>, AsmWhy>
-        requires small { text.0 < text_word_limit }
-        requires few { length text.1.now ≤ most_operands }
+        requires small { text.word < text_word_limit }
+        requires few { length text.operands.now ≤ most_operands }
         ensures value { ok_seen reading_seen result ≡ read_text (text_seen text) (operands_seen operands.now) }
         ensures within { IfOk result (λ reading. unwrap_or reading.word 0 < word_limit) }
     {
-        let Text(word, forms) = text;
+        let Text {
+            word,
+            operands: forms,
+        } = text;
         let mut reading = Reading {
             word: Some(word),
             filling: Filling::Whole,

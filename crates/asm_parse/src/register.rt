@@ -2,7 +2,7 @@
 ghost use Rattle.std.specs.Prelude.{◌≡◌, ◌<◌, IfSome};
 ghost use Rattle.asm_parse.specs.Register.{number_of_register};
 
-use line_text::{TableRow, find, numeral};
+use line_text::{TableRow, find, numeral, table_rows};
 
 /// The number of registers.
 const REGISTER_COUNT: u32 = 32;
@@ -16,39 +16,39 @@ pub struct Register {
 }
 
 /// The registers by name.
-const NAMES: [TableRow<u8>; 32] = [
-    TableRow(b"zero", 0),
-    TableRow(b"at", 1),
-    TableRow(b"v0", 2),
-    TableRow(b"v1", 3),
-    TableRow(b"a0", 4),
-    TableRow(b"a1", 5),
-    TableRow(b"a2", 6),
-    TableRow(b"a3", 7),
-    TableRow(b"t0", 8),
-    TableRow(b"t1", 9),
-    TableRow(b"t2", 10),
-    TableRow(b"t3", 11),
-    TableRow(b"t4", 12),
-    TableRow(b"t5", 13),
-    TableRow(b"t6", 14),
-    TableRow(b"t7", 15),
-    TableRow(b"s0", 16),
-    TableRow(b"s1", 17),
-    TableRow(b"s2", 18),
-    TableRow(b"s3", 19),
-    TableRow(b"s4", 20),
-    TableRow(b"s5", 21),
-    TableRow(b"s6", 22),
-    TableRow(b"s7", 23),
-    TableRow(b"t8", 24),
-    TableRow(b"t9", 25),
-    TableRow(b"k0", 26),
-    TableRow(b"k1", 27),
-    TableRow(b"gp", 28),
-    TableRow(b"sp", 29),
-    TableRow(b"fp", 30),
-    TableRow(b"ra", 31),
+const NAMES: [TableRow<u8>; 32] = table_rows![
+    b"zero" => 0,
+    b"at" => 1,
+    b"v0" => 2,
+    b"v1" => 3,
+    b"a0" => 4,
+    b"a1" => 5,
+    b"a2" => 6,
+    b"a3" => 7,
+    b"t0" => 8,
+    b"t1" => 9,
+    b"t2" => 10,
+    b"t3" => 11,
+    b"t4" => 12,
+    b"t5" => 13,
+    b"t6" => 14,
+    b"t7" => 15,
+    b"s0" => 16,
+    b"s1" => 17,
+    b"s2" => 18,
+    b"s3" => 19,
+    b"s4" => 20,
+    b"s5" => 21,
+    b"s6" => 22,
+    b"s7" => 23,
+    b"t8" => 24,
+    b"t9" => 25,
+    b"k0" => 26,
+    b"k1" => 27,
+    b"gp" => 28,
+    b"sp" => 29,
+    b"fp" => 30,
+    b"ra" => 31,
 ];
 
 impl Register {

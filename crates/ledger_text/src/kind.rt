@@ -2,7 +2,7 @@
 ghost use Rattle.std.specs.Prelude.{◌≡◌};
 ghost use Rattle.ledger_text.specs.LineKinds.{before_bind, before_keep, before_page, before_row, before_sum, ends_env, kind_after, may_follow};
 
-use line_text::{TableRow, find};
+use line_text::{TableRow, find, table_rows};
 
 /// The kind of a line.
 #[derive(Clone, Copy)]
@@ -40,32 +40,32 @@ pub(crate) enum LineKind {
 }
 
 /// The kinds by their first words.
-const KIND_NAMES: [TableRow<LineKind>; 25] = [
-    TableRow(b"run", LineKind::Row),
-    TableRow(b"stop", LineKind::Row),
-    TableRow(b"own", LineKind::Row),
-    TableRow(b"pay", LineKind::Row),
-    TableRow(b"give", LineKind::Row),
-    TableRow(b"async", LineKind::Row),
-    TableRow(b"sync", LineKind::Row),
-    TableRow(b"end", LineKind::Row),
-    TableRow(b"over", LineKind::Row),
-    TableRow(b"dead", LineKind::Row),
-    TableRow(b"asked", LineKind::Row),
-    TableRow(b"take", LineKind::Row),
-    TableRow(b"drop", LineKind::Row),
-    TableRow(b"sum", LineKind::Sum),
-    TableRow(b"env", LineKind::Env),
-    TableRow(b"out", LineKind::Out),
-    TableRow(b"cpu", LineKind::Cpu),
-    TableRow(b"regs", LineKind::Regs),
-    TableRow(b"excess", LineKind::Excess),
-    TableRow(b"keep", LineKind::Keep),
-    TableRow(b"page", LineKind::Page),
-    TableRow(b"bind", LineKind::Bind),
-    TableRow(b"sent", LineKind::Sent),
-    TableRow(b"aegis", LineKind::Title),
-    TableRow(b"done", LineKind::Done),
+const KIND_NAMES: [TableRow<LineKind>; 25] = table_rows![
+    b"run" => LineKind::Row,
+    b"stop" => LineKind::Row,
+    b"own" => LineKind::Row,
+    b"pay" => LineKind::Row,
+    b"give" => LineKind::Row,
+    b"async" => LineKind::Row,
+    b"sync" => LineKind::Row,
+    b"end" => LineKind::Row,
+    b"over" => LineKind::Row,
+    b"dead" => LineKind::Row,
+    b"asked" => LineKind::Row,
+    b"take" => LineKind::Row,
+    b"drop" => LineKind::Row,
+    b"sum" => LineKind::Sum,
+    b"env" => LineKind::Env,
+    b"out" => LineKind::Out,
+    b"cpu" => LineKind::Cpu,
+    b"regs" => LineKind::Regs,
+    b"excess" => LineKind::Excess,
+    b"keep" => LineKind::Keep,
+    b"page" => LineKind::Page,
+    b"bind" => LineKind::Bind,
+    b"sent" => LineKind::Sent,
+    b"aegis" => LineKind::Title,
+    b"done" => LineKind::Done,
 ];
 
 /// The first word of the line that says how the run ended, and of a row.

@@ -1,5 +1,5 @@
 //! The names of rows, by how many numbers stand behind them.
-use line_text::TableRow;
+use line_text::{TableRow, table_rows};
 
 /// A row of a time, a slot and an environment.
 #[derive(Clone, Copy)]
@@ -24,21 +24,21 @@ pub(crate) enum LongName {
 }
 
 /// The rows of three numbers by their names.
-pub(crate) const SHORT_NAMES: [TableRow<ShortName>; 5] = [
-    TableRow(b"run", ShortName::Run),
-    TableRow(b"stop", ShortName::Stop),
-    TableRow(b"pay", ShortName::Pay),
-    TableRow(b"end", ShortName::End),
-    TableRow(b"dead", ShortName::Dead),
+pub(crate) const SHORT_NAMES: [TableRow<ShortName>; 5] = table_rows![
+    b"run" => ShortName::Run,
+    b"stop" => ShortName::Stop,
+    b"pay" => ShortName::Pay,
+    b"end" => ShortName::End,
+    b"dead" => ShortName::Dead,
 ];
 
 /// Those of four by theirs.
-pub(crate) const LONG_NAMES: [TableRow<LongName>; 7] = [
-    TableRow(b"own", LongName::Own),
-    TableRow(b"give", LongName::Give),
-    TableRow(b"async", LongName::Async),
-    TableRow(b"sync", LongName::Sync),
-    TableRow(b"over", LongName::Over),
-    TableRow(b"asked", LongName::Asked),
-    TableRow(b"take", LongName::Take),
+pub(crate) const LONG_NAMES: [TableRow<LongName>; 7] = table_rows![
+    b"own" => LongName::Own,
+    b"give" => LongName::Give,
+    b"async" => LongName::Async,
+    b"sync" => LongName::Sync,
+    b"over" => LongName::Over,
+    b"asked" => LongName::Asked,
+    b"take" => LongName::Take,
 ];

@@ -13,7 +13,7 @@ said_from name rows i = lookup (bytes_eq name) (rows_seen (drop i rows))
 
 -- the row at the place, or the rows behind it
 pub said_at : {T : Type 0} (name : List ℕ) (rows : List (TableRow T)) (i : ℕ) (row : TableRow T) → i < length rows → row ≡ get_or rows i row →
-    said_from name rows i ≡ cond (bytes_eq name row.0.now) (Some row.1) (said_from name rows (i + 1))
+    said_from name rows i ≡ cond (bytes_eq name row.name.now) (Some row.meaning) (said_from name rows (i + 1))
 said_at name rows i row within is = rw (add-one, drop-cons rows i row within, ← is) refl
 
 -- a bound on what the rows mean is one on what is found

@@ -46,8 +46,8 @@ fn push_row(
     ensures ok { OnOk result (out.new.items ≡ out.old.items ++ row_text (text_row_seen row) word address) }
     ensures keeps { Keeps out.old.items out.new.items }
 {
-    push_word(out, Word::Text(row.0))?;
-    push_operands(row.1.1, word, address, out)
+    push_word(out, Word::Text(row.name))?;
+    push_operands(row.meaning.operands, word, address, out)
 }
 
 /// Appends a word as a number.

@@ -30,10 +30,10 @@ found_below size n test None all is = tt
 found_below size n test (Some text) all is = rw (← is) at (lookup_below size n test rows all)
 
 -- no opcode above 47 has a row
-pub found_small : (test : List ℕ → Bool) (found : Option Text) → option_map text_seen found ≡ lookup test rows → IfSome found (λ text. text.0 < text_word_limit)
+pub found_small : (test : List ℕ → Bool) (found : Option Text) → option_map text_seen found ≡ lookup test rows → IfSome found (λ text. text.word < text_word_limit)
 unfolding form_of
 found_small test found is = found_below (λ (text : TextValue). text.word) text_word_limit test found refl is
 
 -- no instruction has more than three operands
-pub found_few : (test : List ℕ → Bool) (found : Option Text) → option_map text_seen found ≡ lookup test rows → IfSome found (λ text. length text.1.now ≤ most_operands)
+pub found_few : (test : List ℕ → Bool) (found : Option Text) → option_map text_seen found ≡ lookup test rows → IfSome found (λ text. length text.operands.now ≤ most_operands)
 found_few test found is = IfSome_then found (found_below (λ (text : TextValue). length text.operands) 4 test found refl is) (λ text few. omega arith)

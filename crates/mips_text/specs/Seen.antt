@@ -5,7 +5,7 @@ use Rattle.mips_text.specs.Texts.{TextValue}
 use Rattle.mips_text.specs.declared.text.Text.{Text}
 
 abbrev pub text_seen : Text → TextValue
-text_seen text = record { word = text.0; operands = text.1.now }
+text_seen text = record { word = text.word; operands = text.operands.now }
 
 abbrev pub text_row_seen : TableRow Text → List ℕ × TextValue
-text_row_seen row = (row.0.now, text_seen row.1)
+text_row_seen row = (row.name.now, text_seen row.meaning)
