@@ -1,6 +1,6 @@
 //! Where files are opened.
-ghost use Rattle.std.specs.Prelude.{ℕ, ◌≤◌, List, Option, None, IfSome};
-ghost use Rattle.edge_io.specs.Limits.{file_limit};
+ghost use Rattle.std.specs.Prelude.{◌≡◌, ℕ, ◌≤◌, List, Option, None, IfSome};
+ghost use Rattle.edge_io.specs.Limits.{file_limit, within_limit};
 ghost use Rattle.edge_io.specs.Reads.{IsFileOf};
 
 use crate::shelf::FILE_LIMIT;
@@ -31,16 +31,22 @@ pub trait Folder {
         ensures forecast { IfSome result (λ opened. opened.forecast ≤ file_limit) };
 }
 
-// The length of an open file as the host tells it, where a file may be so long.
-fn told_length<F: OpenFile>(file: &F) -> Option<usize>
-    ensures { IfSome result (λ n. n ≤ file_limit) }
+// This length, where a file may be so long.
+fn within_limit(length: u64) -> Option<usize>
+    ensures { result ≡ within_limit length }
 {
-    let length = file.metadata().ok()?.len();
     if length <= FILE_LIMIT as u64 {
         Some(length as usize)
     } else {
         None
     }
+}
+
+// The length of an open file as the host tells it, where a file may be so long.
+fn told_length<F: OpenFile>(file: &F) -> Option<usize>
+    ensures { IfSome result (λ n. n ≤ file_limit) }
+{
+    within_limit(file.metadata().ok()?.len())
 }
 
 /// The host's files, of which nothing is told.

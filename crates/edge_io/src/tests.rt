@@ -4,6 +4,8 @@ use std::io;
 use std::io::Read;
 use std::test::Fail;
 
+mod cabinet;
+
 const HELLO: [u8; 5] = *b"hello";
 
 /// A file that says hello, a byte at a time.
