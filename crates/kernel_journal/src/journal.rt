@@ -1,6 +1,6 @@
 //! The ledger while it is written.
-ghost use Rattle.std.specs.Prelude.{◌≡◌, ◌<◌, ◌≤◌, IsOk, OnOk, OnErr};
-ghost use Rattle.kernel_journal.specs.Ledger.{empty_ledger, with_row};
+ghost use Rattle.std.specs.Prelude.{◌≡◌, ◌+◌, ◌^◌, ◌<◌, ◌≤◌, IsOk, OnOk, OnErr};
+ghost use Rattle.kernel_journal.specs.Ledger.{empty_ledger, spare_after, with_row};
 
 use crate::row::Row;
 use aegis_limits::OutOfMemory;
@@ -26,6 +26,14 @@ impl Model for Journal {
     ghost invariant = { λ j. vec_len j.rows + j.spare ≤ vec_capacity j.rows };
 }
 
+// For how many rows memory is taken, beside the rows that there are, when room for more is wanted.
+fn growth(length: usize, rows: u32) -> usize
+    requires { length < 2 ^ 63 }
+    ensures { result ≡ length + rows }
+{
+    length + rows as usize
+}
+
 impl Journal {
     /// A journal without rows. It takes no memory.
     pub fn new(alloc: Global) -> Journal
@@ -38,21 +46,22 @@ impl Journal {
     }
 
     /// Takes memory for so many rows more, where it isn't there yet. Growth is amortized: when it
-    /// takes memory, it takes as much as all rows have, or more.
+    /// takes memory, then for as many again as there are.
     pub fn room(&mut self, rows: u32) -> Result<(), OutOfMemory>
         ensures spare { OnOk result (rows ≤ self.new.spare) }
         ensures same_rows { self.new.rows ≡ self.old.rows }
+        ensures taken { OnOk result (self.new.spare ≡ spare_after self.old rows) }
 
         // Where so many are spare already the journal stays as it is, and so does it after a refusal.
         ensures there_already { rows ≤ self.old.spare → IsOk result × (self.new ≡ self.old) }
         ensures refused { OnErr result (self.new ≡ self.old) }
     {
-        let wanted = rows as usize;
-        if wanted <= self.spare {
+        if rows as usize <= self.spare {
             return Ok(());
         }
-        self.rows.reserve(wanted)?;
-        self.spare = self.rows.capacity() - self.rows.len();
+        let spare = growth(self.rows.len(), rows);
+        self.rows.reserve_exact(spare)?;
+        self.spare = spare;
         Ok(())
     }
 
