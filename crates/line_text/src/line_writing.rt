@@ -46,13 +46,23 @@ fn push_text(out: &mut Vec<u8>, text: &[u8]) -> Result<(), OutOfMemory>
     Ok(())
 }
 
+/// Appends a byte as it is.
+#[inline(always)]
+fn push_byte(out: &mut Vec<u8>, byte: u8) -> Result<(), OutOfMemory>
+    ensures ok { OnOk result (out.new.items ≡ out.old.items ++ byte ∷ []) }
+    ensures keeps { Keeps out.old.items out.new.items }
+{
+    out.push(byte)?;
+    Ok(())
+}
+
 /// Appends bytes, and a colon behind them.
 fn push_label(out: &mut Vec<u8>, text: &[u8]) -> Result<(), OutOfMemory>
     ensures ok { OnOk result (out.new.items ≡ out.old.items ++ label text.now) }
     ensures keeps { Keeps out.old.items out.new.items }
 {
     push_text(out, text)?;
-    push_text(out, b":")
+    push_byte(out, b':')
 }
 
 /// Appends bytes between quotation marks.
@@ -60,9 +70,9 @@ fn push_quotation(out: &mut Vec<u8>, bytes: &[u8]) -> Result<(), OutOfMemory>
     ensures ok { OnOk result (out.new.items ≡ out.old.items ++ quotation bytes.now) }
     ensures keeps { Keeps out.old.items out.new.items }
 {
-    push_text(out, b"\"")?;
+    push_byte(out, b'"')?;
     push_quoted(out, bytes)?;
-    push_text(out, b"\"")
+    push_byte(out, b'"')
 }
 
 /// Appends bytes in hexadecimal digits.
@@ -85,10 +95,10 @@ pub fn push_word(out: &mut Vec<u8>, word: Word<'_>) -> Result<(), OutOfMemory>
         Word::Text(bytes) => push_text(out, bytes),
         Word::Label(bytes) => push_label(out, bytes),
         Word::Number(n) => push_dec(out, n),
-        Word::Dash => push_text(out, b"-"),
+        Word::Dash => push_byte(out, b'-'),
         Word::PageNumber(n) => push_hex(out, n, PAGE_NUMBER_DIGITS),
         Word::Hexadecimal(n) => push_hex(out, n, WORD_DIGITS as u8),
-        Word::Flag(flag) => push_text(out, if flag { b"1" } else { b"0" }),
+        Word::Flag(flag) => push_byte(out, b'0' + u8::from(flag)),
         Word::Quotation(bytes) => push_quotation(out, bytes),
         Word::Bytes(bytes) => push_bytes(out, bytes),
     }
@@ -99,7 +109,7 @@ pub fn push_spaced(out: &mut Vec<u8>, word: Word<'_>) -> Result<(), OutOfMemory>
     ensures ok { OnOk result (out.new.items ≡ out.old.items ++ spaced (text_of word.entry)) }
     ensures keeps { Keeps out.old.items out.new.items }
 {
-    push_text(out, b" ")?;
+    push_byte(out, b' ')?;
     push_word(out, word)
 }
 
@@ -119,7 +129,7 @@ pub fn end_line(out: &mut Vec<u8>) -> Result<(), OutOfMemory>
     ensures ok { OnOk result (out.new.items ≡ out.old.items ++ 10 ∷ []) }
     ensures keeps { Keeps out.old.items out.new.items }
 {
-    push_text(out, b"\n")
+    push_byte(out, b'\n')
 }
 
 /// Appends a line of a name and words.

@@ -14,11 +14,15 @@ pub(crate) const WORD_DIGITS: usize = 8;
 const QUOTED_GLYPHS: usize = 4;
 
 /// Appends a number in decimal, without leading zeros.
-#[tactic(auto, unfolding(crate::specs::Text::dec_text))]
+#[tactic(auto, using(std::proofs::lemmas::Fmt::decimal_digit), unfolding(crate::specs::Text::dec_text))]
 pub fn push_dec(out: &mut Vec<u8>, n: u64) -> Result<(), OutOfMemory>
     ensures ok { OnOk result (out.new.items ≡ out.old.items ++ dec_text n) }
     ensures err { OnErr result (out.new.items ≡ out.old.items) }
 {
+    if n < 10 {
+        out.push(b'0' + n as u8)?;
+        return Ok(());
+    }
     let mut buffer = Buffer::new();
     out.extend_from_slice(buffer.format(n).as_bytes())?;
     Ok(())
