@@ -11,23 +11,26 @@ const FIRST_RANDOM: u8 = 8;
 const LAST_RANDOM: u8 = 63;
 
 /// How many rows it names.
-const RANDOM_ROWS: u8 = LAST_RANDOM - FIRST_RANDOM + 1;
+const RANDOM_ROWS: u64 = (LAST_RANDOM - FIRST_RANDOM + 1) as u64;
+
+/// From this count on whole rounds of falls are left out, so that no count is too large.
+const MANY_FALLS: u64 = 1 << 63;
 
 /// The register Random: the row, from 8 to 63, that TLBWR writes. Each attempted step lowers it by one, from 8 back to 63.
 #[derive(Drop)]
 pub struct Random {
-    row: u8,
+    /// How often it fell from the last row, but for whole rounds: steps are many and those who ask for the row are few, so
+    /// that the division is left to them.
+    falls: u64,
 }
 
 impl Model for Random {
-    ghost use Rattle.std.specs.Prelude.{ℕ, ◌<◌, ◌≤◌};
-    ghost use Rattle.r3k_cp0.specs.Random.{first_random, random_end};
+    ghost use Rattle.std.specs.Prelude.{ℕ, ◌-◌};
+    ghost use Rattle.r3k_cp0.specs.Random.{fallen_times, random_end};
 
     ghost Value = { ℕ };
 
-    ghost view = { λ r. r.row };
-
-    ghost invariant = { λ r. (first_random ≤ r.row) × (r.row < random_end) };
+    ghost view = { λ r. fallen_times (random_end - 1) r.falls };
 }
 
 impl Random {
@@ -35,34 +38,35 @@ impl Random {
     pub fn last() -> Random
         ensures { result ≡ 63 }
     {
-        Random { row: LAST_RANDOM }
+        Random { falls: 0 }
     }
 
     /// The row that it names.
+    #[tactic(auto, using(crate::proofs::Falls::row_of_falls))]
     pub fn row(&self) -> u8
         ensures row { result ≡ self.now }
         ensures least { first_random ≤ result }
         ensures within { result < random_end }
     {
-        self.row
+        LAST_RANDOM - (self.falls % RANDOM_ROWS) as u8
     }
 
     /// After one attempted step.
     pub fn fall(&mut self)
         ensures { self.new ≡ fallen self.old }
     {
-        self.row = if self.row == FIRST_RANDOM {
-            LAST_RANDOM
-        } else {
-            self.row - 1
-        };
+        self.fall_times(1);
     }
 
     /// After so many attempted steps.
+    #[tactic(auto, using(crate::proofs::Falls::falls_on, crate::proofs::Falls::whole_rounds))]
+    #[inline(always)]
     pub fn fall_times(&mut self, times: u32)
         ensures { self.new ≡ fallen_times self.old times }
     {
-        let falls = (times % u32::from(RANDOM_ROWS)) as u8;
-        self.row = FIRST_RANDOM + (self.row - FIRST_RANDOM + RANDOM_ROWS - falls) % RANDOM_ROWS;
+        if self.falls >= MANY_FALLS {
+            self.falls %= RANDOM_ROWS;
+        }
+        self.falls += u64::from(times);
     }
 }
