@@ -40,17 +40,22 @@ IsPair image_name schedule_name image schedule (pair.Sound board events) =
 -- so it is with the pair of this number
 abbrev pub IsPairAt : (names contents : List (List ℕ)) → ℕ → Pair → Type 0
 IsPairAt names contents i =
-    IsPair (get_or names (2 * i) []) (get_or names (2 * i + 1) []) (content contents (2 * i)) (content contents (2 * i + 1))
+    IsPair (get_or names (2 * i) []) (get_or names (2 * i + 1) [])
+    (content contents (2 * i)) (content contents (2 * i + 1))
 
 -- each pair of files is a machine
-pub record AreMachines (contents : List (List ℕ)) (boards : List Shown) (schedules : List (Vec EventValue Global)) : Type 0 where
+pub record AreMachines (contents : List (List ℕ)) (boards : List Shown)
+    (schedules : List (Vec EventValue Global)) : Type 0 where
   pub each : (i : ℕ) (b : Shown) (v : Vec EventValue Global) → i < length boards
-      → IsMachine (content contents (2 * i)) (content contents (2 * i + 1)) (get_or boards i b) (get_or schedules i v).items
+      → IsMachine (content contents (2 * i)) (content contents (2 * i + 1))
+      (get_or boards i b) (get_or schedules i v).items
   pub count : length schedules ≡ length boards
 
 -- so all pairs are, or the first file that has a fault is refused
 abbrev pub ArePairs : List (List ℕ) → List (List ℕ) → Pairs → Type 0
-ArePairs names contents (pairs.Refused answer) = (due : Due) → Settles (unless_refused (refusals names contents) due) answer
+ArePairs names contents (pairs.Refused answer) =
+    (due : Due) → Settles (unless_refused (refusals names contents) due) answer
 ArePairs names contents (pairs.Sound machines) =
     ((due : Due) → unless_refused (refusals names contents) due ≡ due)
-    × AreMachines contents machines.boards.items machines.schedules.items × (length machines.boards.items ≡ length contents / 2)
+    × AreMachines contents machines.boards.items machines.schedules.items
+    × (length machines.boards.items ≡ length contents / 2)

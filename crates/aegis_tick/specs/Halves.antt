@@ -44,5 +44,6 @@ MiddlesAreAtSteps = (system : System) (t : ℕ) → mid system.schedule (world_a
 
 -- An idle world stays as it is, whatever its schedule says.
 abbrev pub IdleWorldsStay : Type 0
-IdleWorldsStay = (schedule : Schedule) (w : World) (t more : ℕ) → is_idle_book (world_after_ticks schedule w t).book ≡ true
+IdleWorldsStay =
+    (schedule : Schedule) (w : World) (t more : ℕ) → is_idle_book (world_after_ticks schedule w t).book ≡ true
     → world_after_ticks schedule w (t + more) ≡ world_after_ticks schedule w t

@@ -23,4 +23,5 @@ going_on b = record { board = b; halt = None }
 
 -- So many ticks from this one on lead from one board to another: a run that has come to the one goes on to the other.
 pub record TicksLead (period t : ℕ) (old new : Board) (ticks : ℕ) : Type 0 where
-  pub each : (first : Board) → run_after period first t ≡ going_on old → run_after period first (t + ticks) ≡ going_on new
+  pub each : (first : Board) → run_after period first t ≡ going_on old
+      → run_after period first (t + ticks) ≡ going_on new

@@ -37,7 +37,8 @@ out_line console = line (codes "out" ∷ dec_text (length console) ∷ quotation
 
 unfoldable pub cpu_line : Cpu → List ℕ
 cpu_line cpu = line
-    (codes "cpu" ∷ hex_text 8 cpu.pc ∷ hex_text 8 cpu.next ∷ flag_text cpu.slot ∷ hex_text 8 cpu.hi ∷ hex_text 8 cpu.lo ∷ [])
+    (codes "cpu" ∷ hex_text 8 cpu.pc ∷ hex_text 8 cpu.next ∷ flag_text cpu.slot ∷ hex_text 8 cpu.hi
+    ∷ hex_text 8 cpu.lo ∷ [])
 
 -- registers 1 to 31
 unfoldable pub regs_line : Cpu → List ℕ

@@ -105,7 +105,8 @@ abbrev pub leads_in : List Environment → Stripes → ℕ → ℕ → Option Ma
 leads_in list binds e vpn = mapping_in binds.version (mappings_of list e) (stripes binds e) vpn
 
 -- The rows of the TLB: none outlives its mapping.
-pub record RowsAgree (frames : List (List ℕ)) (list : List Environment) (binds : Stripes) (rows : List Row) : Type 0 where
+pub record RowsAgree (frames : List (List ℕ)) (list : List Environment) (binds : Stripes)
+    (rows : List Row) : Type 0 where
   pub coherent : AreCoherent (leads_in list binds) (length frames) rows
 
 -- no slot is an environment's, and it doesn't run

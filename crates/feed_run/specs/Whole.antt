@@ -35,7 +35,8 @@ pub record AreComing (events : List EventValue) (time : ℕ) (coming : List Even
   pub same : (t : ℕ) → time ≤ t → schedule_of events t ≡ schedule_of coming t
 
 -- A run between its ticks: its board, the events to come, the items that weren't read, and the slices that have ended.
-pub record IsBetween (system : System) (e : ℕ) (events left : List EventValue) (b : Shown) (log tick : List ItemSeen) (count : ℕ) : Type 0 where
+pub record IsBetween (system : System) (e : ℕ) (events left : List EventValue) (b : Shown) (log tick : List ItemSeen)
+    (count : ℕ) : Type 0 where
   pub board : IsBoardOf system b
   pub coming : AreComing events b.time left
   pub unread : AreUnread (feed system e b.time) log

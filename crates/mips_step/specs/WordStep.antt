@@ -83,4 +83,5 @@ SyscallsCall =
 -- The instruction table has no word of coprocessor 0's opcode that retires.
 abbrev pub SystemWordsTrap : Type 0
 SystemWordsTrap =
-    (answers : Answers) (cpu : Cpu) (word : ℕ) → opcode_of word ≡ 16 → has_retired (fetched_step answers cpu word) ≡ false
+    (answers : Answers) (cpu : Cpu) (word : ℕ) → opcode_of word ≡ 16
+    → has_retired (fetched_step answers cpu word) ≡ false

@@ -34,7 +34,8 @@ pub record IsBitSet (old i : ℕ) (to : Bool) (new : ℕ) : Type 0 where
 pub record IsMarked (old : List ℕ) (row : Row) (i : ℕ) (to : Bool) (new : List ℕ) : Type 0 where
   pub count : length new ≡ length old
   pub each : (place k : ℕ) → place < place_count → k < row_count
-      → bit_at (slice_index new place) k ≡ (if k == i && is_at place row then bit_of to else bit_at (slice_index old place) k)
+      → bit_at (slice_index new place) k
+      ≡ (if k == i && is_at place row then bit_of to else bit_at (slice_index old place) k)
 
 -- each row that has this first word is among those with these bits
 pub record Covers (rows : List Row) (bits word : ℕ) : Type 0 where

@@ -28,7 +28,8 @@ abbrev pub vpns_over : List (List ℕ) → (ℕ → Option Mapping) → Cpu → 
 vpns_over frames leads cpu = fetch_vpns cpu.pc ++ data_vpns cpu (view_of (answers_by (look frames leads)) cpu).fetch
 
 -- The machine runs for an environment in user mode, over rows that hold the mappings of all.
-pub record RunsFor (leads : ℕ → ℕ → Option Mapping) (e : ℕ) (cp0 : Cp0) (rows : List Row) (frames : List (List ℕ)) : Type 0 where
+pub record RunsFor (leads : ℕ → ℕ → Option Mapping) (e : ℕ) (cp0 : Cp0) (rows : List Row)
+    (frames : List (List ℕ)) : Type 0 where
   pub numbered : e < environment_numbers
   pub pid : current_pid cp0 ≡ e
   pub user : is_user cp0 ≡ true
@@ -41,19 +42,24 @@ end_without_refill outcome.Call = ends.Call
 end_without_refill (outcome.Trap exc) = ends.Trap exc
 
 -- A step over rows is the step over the mappings.
-pub record IsFlat (leads : ℕ → Option Mapping) (cp0 : Cp0) (rows : List Row) (frames : List (List ℕ)) (cpu : Cpu) : Type 0 where
+pub record IsFlat (leads : ℕ → Option Mapping) (cp0 : Cp0) (rows : List Row) (frames : List (List ℕ))
+    (cpu : Cpu) : Type 0 where
   pub step : row_step cp0 rows frames cpu ≡ guest_step frames leads cpu
-  pub memory : frames_written cp0 rows frames (write_after (guest_step frames leads cpu)) ≡ frames_after frames leads (write_after (guest_step frames leads cpu))
-  pub end : end_of cp0 rows (outcome_of (guest_step frames leads cpu)) ≡ end_without_refill (outcome_of (guest_step frames leads cpu))
+  pub memory : frames_written cp0 rows frames (write_after (guest_step frames leads cpu))
+      ≡ frames_after frames leads (write_after (guest_step frames leads cpu))
+  pub end : end_of cp0 rows (outcome_of (guest_step frames leads cpu))
+      ≡ end_without_refill (outcome_of (guest_step frames leads cpu))
   pub missed : is_missed (guest_step frames leads cpu) ≡ false
 
 abbrev pub FindsAreFlat : Type 0
-FindsAreFlat = (leads : ℕ → ℕ → Option Mapping) (e : ℕ) (cp0 : Cp0) (rows : List Row) (frames : List (List ℕ)) (cpu : Cpu)
+FindsAreFlat =
+    (leads : ℕ → ℕ → Option Mapping) (e : ℕ) (cp0 : Cp0) (rows : List Row) (frames : List (List ℕ)) (cpu : Cpu)
     → RunsFor leads e cp0 rows frames → first_missing rows e (vpns_over frames (leads e) cpu) ≡ None
     → IsFlat (leads e) cp0 rows frames cpu
 
 -- A step over rows is a miss at a VPN: it ends as a refill, and where the mappings have none, it is the step over them.
-pub record Refills (leads : ℕ → Option Mapping) (cp0 : Cp0) (rows : List Row) (frames : List (List ℕ)) (cpu : Cpu) (vpn : ℕ) : Type 0 where
+pub record Refills (leads : ℕ → Option Mapping) (cp0 : Cp0) (rows : List Row) (frames : List (List ℕ)) (cpu : Cpu)
+    (vpn : ℕ) : Type 0 where
   pub exc : Exc
   pub step : row_step cp0 rows frames cpu ≡ Trapped exc
   pub at : exc.bad / page_size ≡ vpn
@@ -63,18 +69,25 @@ pub record Refills (leads : ℕ → Option Mapping) (cp0 : Cp0) (rows : List Row
   pub missed : is_missed (Trapped exc) ≡ true
 
 abbrev pub MissesRefill : Type 0
-MissesRefill = (leads : ℕ → ℕ → Option Mapping) (e : ℕ) (cp0 : Cp0) (rows : List Row) (frames : List (List ℕ)) (cpu : Cpu) (vpn : ℕ)
+MissesRefill =
+    (leads : ℕ → ℕ → Option Mapping) (e : ℕ) (cp0 : Cp0) (rows : List Row) (frames : List (List ℕ)) (cpu : Cpu)
+    (vpn : ℕ)
     → RunsFor leads e cp0 rows frames → first_missing rows e (vpns_over frames (leads e) cpu) ≡ Some vpn
     → Refills (leads e) cp0 rows frames cpu vpn
 
 -- So many steps over rows that retire are steps over the mappings that do.
-pub record RunIsFlat (leads : ℕ → Option Mapping) (cp0 : Cp0) (rows : List Row) (frames : List (List ℕ)) (cpu : Cpu) (steps : ℕ) : Type 0 where
-  pub registers : (after_row_steps cp0 rows (record { cpu = cpu; frames = frames }) steps).cpu ≡ (after_steps leads (record { cpu = cpu; frames = frames }) steps).cpu
-  pub memory : (after_row_steps cp0 rows (record { cpu = cpu; frames = frames }) steps).frames ≡ (after_steps leads (record { cpu = cpu; frames = frames }) steps).frames
+pub record RunIsFlat (leads : ℕ → Option Mapping) (cp0 : Cp0) (rows : List Row) (frames : List (List ℕ)) (cpu : Cpu)
+    (steps : ℕ) : Type 0 where
+  pub registers : (after_row_steps cp0 rows (record { cpu = cpu; frames = frames }) steps).cpu
+      ≡ (after_steps leads (record { cpu = cpu; frames = frames }) steps).cpu
+  pub memory : (after_row_steps cp0 rows (record { cpu = cpu; frames = frames }) steps).frames
+      ≡ (after_steps leads (record { cpu = cpu; frames = frames }) steps).frames
   pub retire : AllRetire leads (record { cpu = cpu; frames = frames }) steps
 
 abbrev pub RunsAreFlat : Type 0
-RunsAreFlat = (leads : ℕ → ℕ → Option Mapping) (e : ℕ) (cp0 : Cp0) (rows : List Row) (frames : List (List ℕ)) (cpu : Cpu) (steps : ℕ)
+RunsAreFlat =
+    (leads : ℕ → ℕ → Option Mapping) (e : ℕ) (cp0 : Cp0) (rows : List Row) (frames : List (List ℕ)) (cpu : Cpu)
+    (steps : ℕ)
     → RunsFor leads e cp0 rows frames → RowStepsRetire cp0 rows (record { cpu = cpu; frames = frames }) steps
     → RunIsFlat (leads e) cp0 rows frames cpu steps
 
@@ -85,11 +98,16 @@ LeadByNumber leads = (vpn : ℕ) (m : Mapping) → leads vpn ≡ Some m → m.vp
 -- Two refills suffice: once the mappings of two misses of a step are refilled, each into a row of its own, there is no
 -- third miss that a mapping answers.
 abbrev pub TwoRefillsSuffice : Type 0
-TwoRefillsSuffice = (leads : ℕ → Option Mapping) (e : ℕ) (frames : List (List ℕ)) (cpu : Cpu) (rows : List Row) (first second : ℕ) (m n : Mapping)
-    → e < environment_numbers → length rows ≡ row_count → first < row_count → second < row_count → first ≢ second → LeadByNumber leads
+TwoRefillsSuffice =
+    (leads : ℕ → Option Mapping) (e : ℕ) (frames : List (List ℕ)) (cpu : Cpu) (rows : List Row) (first second : ℕ)
+    (m n : Mapping)
+    → e < environment_numbers → length rows ≡ row_count → first < row_count → second < row_count → first ≢ second
+    → LeadByNumber leads
     → next_refill leads e (vpns_over frames leads cpu) rows ≡ Some m
     → next_refill leads e (vpns_over frames leads cpu) (with_row_at rows first (row_for e m)) ≡ Some n
-    → next_refill leads e (vpns_over frames leads cpu) (with_row_at (with_row_at rows first (row_for e m)) second (row_for e n)) ≡ None
+    → next_refill leads e (vpns_over frames leads cpu)
+    (with_row_at (with_row_at rows first (row_for e m)) second (row_for e n))
+    ≡ None
 
 -- Where some access found no row, and each finds one behind a row that is written for a mapping, the mapping's VPN is
 -- that of the first miss.
