@@ -1,6 +1,7 @@
 //! The step of the machine: what it does to the board's parts.
-ghost use Rattle.std.specs.Prelude.{◌≡◌, ◌<◌, ◌^◌, MatchOption, Some};
+ghost use Rattle.std.specs.Prelude.{◌≡◌, ◌<◌, ◌^◌, MatchOption, Some, true, false};
 ghost use Rattle.mips_exec.specs.Step.{outcome_of};
+ghost use Rattle.mips_exec.specs.declared.exception.Outcome.TheVariants.{Call};
 ghost use Rattle.world_model.specs.Book.{running};
 
 use crate::board::Board;
@@ -43,6 +44,19 @@ impl Board {
         }
     }
 
+    /// The runner's step where it is a call that can be fetched by the rows as they are: whether it is. Otherwise nothing has
+    /// changed.
+    #[inline(always)]
+    fn try_call(&mut self, env: u8) -> bool
+        requires { running self.old.slots.runner ≡ Some env }
+        ensures call { result ≡ true → IsAttempted self.old env self.new Call }
+        ensures other { result ≡ false → self.new ≡ self.old }
+    {
+        let machine = &mut self.machine;
+        machine.set_user(env);
+        machine.attempt_call(&self.frames)
+    }
+
     /// Law: there are as many rows of the TLB as ever, and Random names one of them.
     fn law_tlb(&self)
         ensures { HasTlb self.now }
@@ -52,6 +66,7 @@ impl Board {
     }
 
     /// The machine makes one step for the runner. Its accesses go by the TLB, of which at most two rows are refilled.
+    #[inline(always)]
     pub(crate) fn run_machine(&mut self, env: u8) -> Outcome
         requires { running self.old.slots.runner ≡ Some env }
         ensures shown { self.new ≡ after_machine_step (with_lookups self.old env) env (step_seen self.old env) }
@@ -59,6 +74,9 @@ impl Board {
     {
         self.law_sound();
         self.law_tlb();
+        if self.try_call(env) {
+            return Outcome::Call;
+        }
         if let Some(outcome) = self.try_step(env) {
             return outcome;
         }

@@ -14,8 +14,3 @@ by_word calls m frames (Ok word) is = search (rules, (calls (row_answers m.cp0 m
 
 pub call_is_made : SyscallsCall → (m : Machine) (frames : List (List ℕ)) → stands_at_call m frames ≡ true → user_step m frames ≡ Called
 call_is_made calls m frames is = by_word calls m frames (fetched (row_answers m.cp0 m.tlb frames) m.cpu.pc) is
-
-pub call_writes_nothing : SyscallsCall → (m : Machine) (frames : List (List ℕ)) → stands_at_call m frames ≡ true
-    → frames ≡ frames_written m.cp0 m.tlb frames (write_after (user_step m frames))
-unfolding frames_written
-call_writes_nothing calls m frames is = sym (ap (λ st. frames_written m.cp0 m.tlb frames (write_after st)) (call_is_made calls m frames is))

@@ -1,6 +1,6 @@
 //! The machine: its registers, its rows and coprocessor 0.
-ghost use Rattle.std.specs.Prelude.{◌≡◌, ◌<◌, ◌≤◌, ◌/◌, true, false, is_some, length};
-ghost use Rattle.mips_exec.specs.Step.{cpu_after, outcome_of, write_after};
+ghost use Rattle.std.specs.Prelude.{◌≡◌, ◌<◌, ◌≤◌, ◌/◌, true, false, if◌then◌else◌, is_some, length};
+ghost use Rattle.mips_exec.specs.Step.{Called, cpu_after, outcome_of, write_after};
 ghost use Rattle.mips_step.specs.WordStep.{has_retired};
 ghost use Rattle.aegis_limits.specs.Limits.{page_size};
 ghost use Rattle.r3k_tlb.specs.Row.{pid_numbers};
@@ -122,6 +122,22 @@ impl Machine {
         }
     }
 
+    /// Makes the next step in user mode if it is a call of the kernel that can be fetched, and says whether it is. Then
+    /// Random is lowered by one, and nothing else changes; otherwise nothing does.
+    #[inline(always)]
+    pub fn attempt_call(&mut self, frames: &Frames) -> bool
+        ensures stands { result ≡ stands_at_call self.old frames.now }
+        ensures called { result ≡ true → user_step self.old frames.now ≡ Called }
+        ensures machine { self.new ≡ if result then record self.old { cp0 = after_attempts 1 self.old.cp0 } else self.old }
+    {
+        law_syscalls_call();
+        let is_call = self.stands_at_call(frames);
+        if is_call {
+            self.cp0.random.fall();
+        }
+        is_call
+    }
+
     /// One step in user mode, over physical memory. It lowers Random by one, however it ends.
     pub fn user_step(&mut self, frames: &mut Frames) -> MachineEnd
         requires user { is_user self.old.cp0 ≡ true }
@@ -132,10 +148,6 @@ impl Machine {
         ensures rows { self.new.tlb ≡ self.old.tlb }
         ensures cp0 { self.new.cp0 ≡ after_attempts 1 self.old.cp0 }
     {
-        law_syscalls_call();
-        if self.stands_at_call(frames) {
-            return self.end_step(Outcome::Call);
-        }
         let outcome = self.table_step(frames);
         self.end_step(outcome)
     }
