@@ -39,3 +39,4 @@ mod LineOwners
 mod Places
 mod Mappings
 mod Rooms
+mod RegisterZero

@@ -7,3 +7,4 @@ pub mod Whole
 pub mod Sent
 pub mod Lines
 pub mod Kept
+pub mod Registers

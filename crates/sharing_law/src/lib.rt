@@ -1,6 +1,7 @@
 //! The laws of shared pages, for every image, schedule and number of ticks. They stand here in the order in which
 //! `docs/MODEL.md` tells of them: by what right bindings stand and items are given, that the kernel's book and the
-//! environments have one version and agree, why the bytes of a page change, and how much environments send.
+//! environments have one version and agree, why the bytes of a page change, how much environments send, and that register
+//! 0 of each is 0.
 #![tactic(auto)]
 
 // `law_live`, `law_stores`, `law_left`: by what right bindings stand, and bytes are stored and left.
@@ -25,6 +26,8 @@ mod change;
 mod whole;
 // `law_sent`: how much environments send.
 mod sent;
+// `law_register_zero`: register 0 is 0.
+mod registers;
 
 pub use agreement::{
     law_agreement, law_backups, law_bound, law_claim_pages, law_claims, law_claims_apart,
@@ -37,6 +40,7 @@ pub use change::{
 pub use kept::{law_kept, law_leads};
 pub use licence::law_licence;
 pub use lines::law_lines;
+pub use registers::law_register_zero;
 pub use right::{law_feed_licence, law_given_licence, law_left, law_live, law_stores};
 pub use sent::law_sent;
 pub use versions::{law_rows, law_versions};
