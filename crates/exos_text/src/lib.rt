@@ -5,13 +5,17 @@
 //! them has no refusal to answer.
 #![tactic(auto)]
 
+mod channels;
 mod draws;
 mod image;
-mod library;
+mod memory;
 mod program;
 mod schedule;
+mod shares;
 
+pub use channels::{PIPE, RPC};
 pub use image::load_image;
-pub use library::{PIPE, RPC, STORM, STRIDE, VM};
+pub use memory::{STORM, VM};
 pub use program::{LOAD, LOAD_ELF};
 pub use schedule::load_schedule;
+pub use shares::STRIDE;
