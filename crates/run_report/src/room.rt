@@ -1,6 +1,7 @@
 //! How much room a report wants, so that its text is written into one buffer that never grows. Each line is counted by the
 //! most bytes that it may have, so the room is enough; nothing depends on it but how often memory is asked for.
-ghost use Rattle.std.specs.Prelude.{◌<◌};
+ghost use Rattle.std.specs.Prelude.{◌≡◌, ◌<◌, length};
+ghost use Rattle.run_report.specs.Room.{environment_room, packet_room, report_room, within_usize};
 
 use aegis_limits::MOST_STRIPE_ROWS;
 use world_model::WorldView;
@@ -31,9 +32,18 @@ const DIGITS: usize = 2;
 /// The first line, how the run ended, and the last line.
 const FRAME: usize = 64;
 
+/// The room for the line of a packet that was sent.
+fn packet_room(packet: &[u8]) -> usize
+    ensures { result ≡ within_usize (packet_room packet.now) }
+{
+    packet.len().saturating_mul(DIGITS).saturating_add(SENT)
+}
+
 /// The room for the lines of an environment, but for those of pages that it allocated.
+#[tactic(auto, unfolding(crate::specs::Room::environment_room))]
 fn environment_room<V: WorldView>(view: &V, env: u8) -> usize
     requires { env < (V.world view.now).count }
+    ensures { result ≡ within_usize (environment_room ((V.world view.now).solos env)) }
 {
     let console = view.console(env).len().saturating_mul(QUOTED);
     let pages = view.kept_count(env).saturating_mul(PAGE);
@@ -41,15 +51,18 @@ fn environment_room<V: WorldView>(view: &V, env: u8) -> usize
         .saturating_add(console)
         .saturating_add(pages);
     for place in 0..view.sent_count(env) {
-        let bytes = view.sent_packet(env, place).map_or(0, <[u8]>::len);
-        let sent = bytes.saturating_mul(DIGITS).saturating_add(SENT);
-        room = room.saturating_add(sent);
+        if let Some(packet) = view.sent_packet(env, place) {
+            room = room.saturating_add(packet_room(packet));
+        }
     }
     room
 }
 
 /// At least as many bytes as the report has.
-pub(crate) fn room<V: WorldView>(view: &V) -> usize {
+#[tactic(auto, unfolding(crate::specs::Room::report_room))]
+pub(crate) fn room<V: WorldView>(view: &V) -> usize
+    ensures { result ≡ within_usize (report_room (V.world view.now)) }
+{
     let rows = view.journal().len().saturating_mul(ROW);
     let pages = (view.page_count() as usize).saturating_mul(PAGE);
     let mut room = FRAME.saturating_add(rows).saturating_add(pages);
