@@ -6,5 +6,5 @@ abbrev pub file_limit : ℕ
 file_limit = 67108864
 
 -- a length, where a file may be so long
-abbrev pub within_limit : ℕ → Option ℕ
-within_limit length = if nat_le length file_limit then Some length else None
+abbrev pub limited_length : ℕ → Option ℕ
+limited_length length = if nat_le length file_limit then Some length else None

@@ -1,6 +1,6 @@
 //! Where files are opened.
 ghost use Rattle.std.specs.Prelude.{◌≡◌, ℕ, ◌≤◌, List, Option, None, IfSome};
-ghost use Rattle.edge_io.specs.Limits.{file_limit, within_limit};
+ghost use Rattle.edge_io.specs.Limits.{file_limit, limited_length};
 ghost use Rattle.edge_io.specs.Reads.{IsFileOf};
 
 use crate::shelf::FILE_LIMIT;
@@ -32,8 +32,8 @@ pub trait Folder {
 }
 
 // This length, where a file may be so long.
-fn within_limit(length: u64) -> Option<usize>
-    ensures { result ≡ within_limit length }
+fn limited_length(length: u64) -> Option<usize>
+    ensures { result ≡ limited_length length }
 {
     if length <= FILE_LIMIT as u64 {
         Some(length as usize)
@@ -46,7 +46,7 @@ fn within_limit(length: u64) -> Option<usize>
 fn told_length<F: OpenFile>(file: &F) -> Option<usize>
     ensures { IfSome result (λ n. n ≤ file_limit) }
 {
-    within_limit(file.metadata().ok()?.len())
+    limited_length(file.metadata().ok()?.len())
 }
 
 /// The host's files, of which nothing is told.

@@ -1,15 +1,10 @@
--- Sums that stay at the largest number, one term more.
+-- Sums of one term more.
 use Rattle.std.proofs.Common.{◌≡◌, ℕ, ◌+◌, List, take, add-one, arith}
 use Rattle.std.specs.Prelude.{Some, sum, sum_by, slice_get}
 use Rattle.std.proofs.lemmas.Grind.{common_steps}
 use Rattle.std.proofs.lemmas.List.Sums.{sum_by_more, sum_by_push}
 use Rattle.std.proofs.lemmas.Option.{gets}
 use Rattle.world_model.specs.Table.{listed}
-use Rattle.run_report.specs.Room.{within_usize}
-
--- a sum of terms that are each within a usize, and the sum of the terms
-pub within_more : (a b : ℕ) → within_usize (within_usize a + within_usize b) ≡ within_usize (a + b)
-within_more a b = omega arith
 
 pub sum_more : (f : List ℕ → ℕ) (xs : List (List ℕ)) (i : ℕ) (x : List ℕ) → slice_get xs i ≡ Some x →
     sum_by f (take (i + 1) xs) ≡ sum_by f (take i xs) + f x
