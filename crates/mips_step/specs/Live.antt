@@ -9,7 +9,6 @@ joined live = record live.cpu.now {
   regs = slice_set live.cpu.now.regs 0 live.zeroth;
   pc = live.pc;
   next = live.next;
-  slot = live.slot;
 }
 
 -- register 0 holds 0

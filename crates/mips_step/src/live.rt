@@ -5,17 +5,16 @@ ghost use Rattle.mips_step.specs.Live.{HasZero, IsSameLive, joined};
 
 use mips_exec::Cpu;
 
-/// The registers of a program while its steps are made: those that each step changes are apart from the others, so that
-/// a loop of steps keeps them in registers of the host; and register 0 holds 0, so that no read asks for its number.
+/// The registers of a program while its steps are made: the addresses that each step changes are apart from the others, so
+/// that a loop of steps keeps them in registers of the host; and register 0 holds 0, so that no read asks for its number.
 #[derive(Drop)]
 pub struct Live<'a> {
-    /// All registers; `pc`, `next` and `slot` have the values before these steps.
+    /// All registers; `pc` and `next` have the values before these steps.
     cpu: &'a mut Cpu,
     /// What register 0 held before these steps.
     zeroth: u32,
     pub pc: u32,
     pub next: u32,
-    pub slot: bool,
 }
 
 /// What the general register `n` holds.
@@ -44,7 +43,7 @@ impl<'a> Live<'a> {
         ensures cpu { joined result ≡ cpu.old }
         ensures zero { HasZero result }
     {
-        let Cpu { pc, next, slot, .. } = *cpu;
+        let Cpu { pc, next, .. } = *cpu;
         let zeroth = cpu.regs[0];
         cpu.regs[0] = 0;
         Live {
@@ -52,7 +51,6 @@ impl<'a> Live<'a> {
             zeroth,
             pc,
             next,
-            slot,
         }
     }
 
@@ -66,7 +64,6 @@ impl<'a> Live<'a> {
         self.cpu.regs[0] = self.zeroth;
         self.cpu.pc = self.pc;
         self.cpu.next = self.next;
-        self.cpu.slot = self.slot;
     }
 
     /// What register `n` reads.
@@ -87,6 +84,14 @@ impl<'a> Live<'a> {
         ensures zero { HasZero self.old → HasZero self.new }
     {
         set_general(self.cpu, n, value);
+    }
+
+    /// Whether it is in a delay slot.
+    #[inline(always)]
+    pub(crate) fn slot(&self) -> bool
+        ensures { result ≡ (joined self.now).slot }
+    {
+        self.cpu.slot
     }
 
     /// What HI reads.
@@ -125,7 +130,7 @@ impl<'a> Live<'a> {
     {
         self.pc = self.next;
         self.next = self.next.wrapping_add(4);
-        self.slot = false;
+        self.cpu.slot = false;
     }
 
     /// Goes on to the delay slot, and from there to the target.
@@ -137,6 +142,6 @@ impl<'a> Live<'a> {
     {
         self.pc = self.next;
         self.next = target;
-        self.slot = true;
+        self.cpu.slot = true;
     }
 }

@@ -142,7 +142,7 @@ fn special(live: &Live<'_>, word: u32) -> Change
             rd(word),
             rs_value(live, word),
         ),
-        12 if live.slot => Change::Raises(Exc::plain(ExcCode::Sys)),
+        12 if live.slot() => Change::Raises(Exc::plain(ExcCode::Sys)),
         12 => Change::Calls,
         13 => Change::Raises(Exc::plain(ExcCode::Bp)),
         16 if has_only_rd(word) => puts_rd(word, live.hi()),

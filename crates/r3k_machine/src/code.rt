@@ -1,12 +1,11 @@
 //! The page that instructions are fetched from.
 ghost use Rattle.std.specs.Prelude.{◌≡◌, ◌%◌, Ok, true, length, IfNone, IfSome, IsErr};
+ghost use Rattle.aegis_limits.specs.Limits.{page_size};
 ghost use Rattle.mips_exec.specs.Step.{fetched};
 ghost use Rattle.r3k_machine.specs.Code.{IsCode, has};
 ghost use Rattle.r3k_machine.specs.Memory.{row_answers};
 
-use crate::bus::bytes_from;
 use crate::translation::{AccessKind, PAGE_BYTES, reached_page};
-use byteorder::{ByteOrder, LittleEndian};
 use frame_store::Frames;
 use r3k_cp0::Cp0;
 use r3k_tlb::Tlb;
@@ -41,12 +40,15 @@ impl CodePage {
         }
     }
 
-    /// Whether the address is one of a word in the page.
+    /// Whether the address is one of a word in the page: how far it is behind the first byte has none of the bits that are
+    /// past the page or within a word.
     #[inline(always)]
     pub fn has(self, address: u32) -> bool
+        requires { self.base % page_size ≡ 0 }
         ensures { result ≡ has self address }
     {
-        address - address % PAGE_BYTES + address % 4 == self.base
+        let place = address.wrapping_sub(self.base);
+        place - place % PAGE_BYTES + place % 4 == 0
     }
 
     /// The word at an address in the page.
@@ -57,6 +59,6 @@ impl CodePage {
         requires has { has self address ≡ true }
         ensures { (row_answers cp0.now tlb.now frames.now).fetch address ≡ Ok result }
     {
-        LittleEndian::read_u32(bytes_from(frames, self.page, address))
+        frames.word(self.page, address.wrapping_sub(self.base))
     }
 }

@@ -1,5 +1,5 @@
 //! Where an address leads in physical memory, by the rows of the TLB and the mode.
-ghost use Rattle.std.specs.Prelude.{◌≡◌, ◌<◌, IfOk, None, length};
+ghost use Rattle.std.specs.Prelude.{◌≡◌, ◌<◌, IfOk, length};
 ghost use Rattle.r3k_machine.specs.Translation.{address_error, bus_error, is_store, miss, page_by_row, page_by_mode, reached_page};
 
 use aegis_limits::PAGE_SIZE;
@@ -41,6 +41,7 @@ impl AccessKind {
     }
 
     /// What an address raises that users may not name.
+    #[inline(always)]
     fn address_error(self) -> ExcCode
         ensures { result ≡ address_error self }
     {
@@ -51,6 +52,7 @@ impl AccessKind {
     }
 
     /// What an address raises that has no row, or one that isn't valid.
+    #[inline(always)]
     fn miss(self) -> ExcCode
         ensures { result ≡ miss self }
     {
@@ -61,6 +63,7 @@ impl AccessKind {
     }
 
     /// What an address raises whose page physical memory hasn't got.
+    #[inline(always)]
     fn bus_error(self) -> ExcCode
         ensures { result ≡ bus_error self }
     {
@@ -72,6 +75,7 @@ impl AccessKind {
 }
 
 /// The page of an access by its row. V is asked before D, and N isn't asked.
+#[inline(always)]
 fn page_by_row(kind: AccessKind, va: u32, row: Option<Row>) -> Result<u32, Exc>
     ensures { result ≡ page_by_row kind va row }
 {
@@ -88,6 +92,7 @@ fn page_by_row(kind: AccessKind, va: u32, row: Option<Row>) -> Result<u32, Exc>
 }
 
 /// The page of an access.
+#[inline(always)]
 fn page_by_mode(tlb: &Tlb, cp0: &Cp0, kind: AccessKind, va: u32) -> Result<u32, Exc>
     ensures { result ≡ page_by_mode cp0.now tlb.now kind va }
 {
@@ -100,9 +105,10 @@ fn page_by_mode(tlb: &Tlb, cp0: &Cp0, kind: AccessKind, va: u32) -> Result<u32, 
     }
 }
 
-/// The page of physical memory that an access reaches, or what it raises.
-#[inline(never)]
-fn reached_page_by_rule(
+/// The page of physical memory that an access reaches, or what it raises. All of it is inlined: a loop of steps that asks
+/// only whether there is a page then makes no exception.
+#[inline(always)]
+pub(crate) fn reached_page(
     frames: &Frames,
     tlb: &Tlb,
     cp0: &Cp0,
@@ -118,46 +124,4 @@ fn reached_page_by_rule(
     } else {
         Err(Exc::plain(kind.bus_error()).at(va))
     }
-}
-
-/// What an access raises that no row serves.
-#[cold]
-#[inline(never)]
-fn missed(kind: AccessKind, va: u32) -> Result<u32, Exc>
-    ensures { result ≡ page_by_row kind va None }
-{
-    Err(Exc::plain(kind.miss()).at(va))
-}
-
-/// The page of physical memory that an access reaches, or what it raises: at once where a row of a user's address
-/// serves it or none fits, or where it is the kernel's and goes by no row.
-#[inline(always)]
-pub(crate) fn reached_page(
-    frames: &Frames,
-    tlb: &Tlb,
-    cp0: &Cp0,
-    kind: AccessKind,
-    va: u32,
-) -> Result<u32, Exc>
-    ensures page { result ≡ reached_page cp0.now tlb.now (length frames.now) kind va }
-    ensures there { IfOk result (λ page. page < length frames.now) }
-{
-    if va < USER_END {
-        match tlb.fitting(va / PAGE_BYTES, cp0.pid()) {
-            Some(row)
-                if row.is_valid()
-                    && (!kind.is_store() || row.is_dirty())
-                    && row.page() < frames.pages() => {
-                return Ok(row.page());
-            }
-            Some(_) => {}
-            None => return missed(kind, va),
-        }
-    } else if va < DIRECT_END && !cp0.is_user() {
-        let page = va % DIRECT_SIZE / PAGE_BYTES;
-        if page < frames.pages() {
-            return Ok(page);
-        }
-    }
-    reached_page_by_rule(frames, tlb, cp0, kind, va)
 }

@@ -1,3 +1,4 @@
+mod Scanning
 mod Bits
 mod Emptying
 mod Fitting

@@ -1,5 +1,5 @@
 //! The TLB.
-ghost use Rattle.std.specs.Prelude.{◌≡◌, ◌<◌, Bool, IfSome, length, ℕ};
+ghost use Rattle.std.specs.Prelude.{◌≡◌, ◌<◌, Bool, IfSome, length, slice_get, unwrap_or, ℕ};
 ghost use Rattle.r3k_tlb.specs.declared.row.Row.{Row};
 ghost use Rattle.r3k_tlb.specs.Row.{emptied_row, page_numbers, pid_numbers};
 ghost use Rattle.r3k_tlb.specs.Rows.{emptied_rows, emptied_where, first_fitting, first_fitting_place, has_page, has_pair, has_pid, row_at, row_count, with_row_at};
@@ -79,18 +79,26 @@ impl Tlb {
         ensures { result ≡ first_fitting vpn pid self.now }
     {
         if self.odd != 0 || vpn >= USER_END >> 12 {
-            return self.scan(vpn, pid);
+            return self.get(self.scan(vpn, pid));
         }
         let word = hi_word(vpn, pid);
         first_with(&self.rows, self.index[hash_of(word)], word)
     }
 
-    /// The same for any rows and numbers, row by row.
+    /// The place of the lowest row that fits, for any rows and numbers, row by row; or how many rows there are, if none
+    /// does. It is one number, which a caller keeps in a register of the host.
     #[inline(never)]
-    fn scan(&self, vpn: u32, pid: u8) -> Option<Row>
-        ensures { result ≡ first_fitting vpn pid self.now }
+    fn scan(&self, vpn: u32, pid: u8) -> usize
+        ensures { result ≡ unwrap_or (first_fitting_place vpn pid self.now) row_count }
     {
-        self.rows.iter().copied().find(|row| row.fits(vpn, pid))
+        self.place_of_fitting(vpn, pid).unwrap_or(ROW_COUNT)
+    }
+
+    /// The row at a place, if there is one.
+    fn get(&self, place: usize) -> Option<Row>
+        ensures { result ≡ slice_get self.now place }
+    {
+        self.rows.get(place).copied()
     }
 
     /// The row with this number, below 64.
