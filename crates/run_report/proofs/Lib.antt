@@ -1,3 +1,4 @@
+mod Counting
 mod Rising
 mod Lines
 mod Rooms

@@ -1,48 +1,68 @@
 //! The last lines of a report but one: how often each environment had a turn, forfeited one, or ran a
 //! quantum of excess.
-ghost use Rattle.std.specs.Prelude.{◌≡◌, ◌++◌, count_by, OnOk};
-ghost use Rattle.run_model.specs.Excess.{is_run_of, is_pay_of, is_over_of};
-ghost use Rattle.run_report.specs.Report.{sum_line};
+ghost use Rattle.std.specs.Prelude.{◌≡◌, ◌++◌, slice_index, [], ◌∷◌, Some, codes, OnOk};
+ghost use Rattle.run_report.specs.Report.{numbers_line, sum_line, for_each};
+ghost use Rattle.run_report.specs.Sums.{AreSums, byte_values};
 
 use crate::words::env;
 use aegis_limits::OutOfMemory;
 use kernel_journal::Row;
 use line_text::{Word, push_line};
+use world_model::WorldView;
 
-/// How many turns the environment had.
-fn runs_of(rows: &[Row], who: u8) -> usize
-    ensures { result ≡ count_by (is_run_of who) rows.now }
-{
-    rows.iter()
-        .filter(|row| matches!(row, Row::Run { env, .. } if *env == who))
-        .count()
+/// How many values a byte has, as which rows name environments.
+const BYTE_VALUES: usize = 256;
+
+/// How often each environment, by its number, had a turn, forfeited one, or ran a quantum of excess.
+#[derive(Drop)]
+struct Sums {
+    runs: [usize; BYTE_VALUES],
+    pays: [usize; BYTE_VALUES],
+    overs: [usize; BYTE_VALUES],
 }
 
-/// How many turns the environment forfeited.
-fn pays_of(rows: &[Row], who: u8) -> usize
-    ensures { result ≡ count_by (is_pay_of who) rows.now }
-{
-    rows.iter()
-        .filter(|row| matches!(row, Row::Pay { env, .. } if *env == who))
-        .count()
+impl Sums {
+    /// The sums of all environments, by one pass over the rows.
+    fn of(rows: &[Row]) -> Sums
+        ensures { AreSums rows.now result }
+    {
+        let mut sums = Sums {
+            runs: [0; BYTE_VALUES],
+            pays: [0; BYTE_VALUES],
+            overs: [0; BYTE_VALUES],
+        };
+        for row in rows {
+            match *row {
+                Row::Run { env, .. } => sums.runs[usize::from(env)] += 1,
+                Row::Pay { env, .. } => sums.pays[usize::from(env)] += 1,
+                Row::Over { env, .. } => sums.overs[usize::from(env)] += 1,
+                _ => {}
+            }
+        }
+        sums
+    }
+
+    /// Appends the line of an environment's sums.
+    #[tactic(auto, unfolding(crate::specs::Report::numbers_line, line_text::specs::WrittenLine::line_of))]
+    fn push_line(&self, out: &mut Vec<u8>, who: u8) -> Result<(), OutOfMemory>
+        ensures { OnOk result (out.new.items ≡ out.old.items ++ numbers_line (codes "sum") (Some who ∷ Some (slice_index self.now.runs who) ∷ Some (slice_index self.now.pays who) ∷ Some (slice_index self.now.overs who) ∷ [])) }
+    {
+        let place = usize::from(who);
+        let runs = Word::Number(self.runs[place] as u64);
+        let pays = Word::Number(self.pays[place] as u64);
+        let overs = Word::Number(self.overs[place] as u64);
+        push_line(out, b"sum", &[env(who), runs, pays, overs])
+    }
 }
 
-/// How many quanta of excess the environment ran.
-fn overs_of(rows: &[Row], who: u8) -> usize
-    ensures { result ≡ count_by (is_over_of who) rows.now }
+/// Appends the sums of each environment.
+#[tactic(auto, using(std::proofs::lemmas::Grind::common_steps, crate::proofs::Lines::for_each_more))]
+pub(crate) fn push_sums<V: WorldView>(out: &mut Vec<u8>, view: &V) -> Result<(), OutOfMemory>
+    ensures { OnOk result (out.new.items ≡ out.old.items ++ for_each (sum_line (V.world view.now).rows) (V.world view.now).count) }
 {
-    rows.iter()
-        .filter(|row| matches!(row, Row::Over { env, .. } if *env == who))
-        .count()
-}
-
-/// Appends the line of an environment's sums.
-#[tactic(auto, unfolding(crate::specs::Report::numbers_line, line_text::specs::WrittenLine::line_of))]
-pub(crate) fn push_sum_line(out: &mut Vec<u8>, rows: &[Row], who: u8) -> Result<(), OutOfMemory>
-    ensures { OnOk result (out.new.items ≡ out.old.items ++ sum_line rows.now who) }
-{
-    let runs = Word::Number(runs_of(rows, who) as u64);
-    let pays = Word::Number(pays_of(rows, who) as u64);
-    let overs = Word::Number(overs_of(rows, who) as u64);
-    push_line(out, b"sum", &[env(who), runs, pays, overs])
+    let sums = Sums::of(view.journal());
+    for env in 0..view.envs() {
+        sums.push_line(out, env)?;
+    }
+    Ok(())
 }

@@ -1,12 +1,12 @@
 //! The whole report.
 ghost use Rattle.std.specs.Prelude.{◌≡◌, ◌++◌, OnOk, IfOk};
-ghost use Rattle.run_report.specs.Report.{env_text, sum_line, for_each, end_text, end_line, report_line, report_text, summary_text};
+ghost use Rattle.run_report.specs.Report.{env_text, for_each, end_text, end_line, report_line, report_text, summary_text};
 
 use crate::environment::push_env;
 use crate::ledger::push_rows;
 use crate::page::fingerprint;
 use crate::room::room;
-use crate::sums::push_sum_line;
+use crate::sums::push_sums;
 use crate::words::number;
 use aegis_limits::OutOfMemory;
 use kernel_journal::RunEnd;
@@ -92,17 +92,6 @@ fn push_envs<V: WorldView>(out: &mut Vec<u8>, view: &V) -> Result<(), OutOfMemor
 {
     for env in 0..view.envs() {
         push_env(out, view, env)?;
-    }
-    Ok(())
-}
-
-/// Appends the sums of each environment.
-#[tactic(auto, using(std::proofs::lemmas::Grind::common_steps, crate::proofs::Lines::for_each_more))]
-fn push_sums<V: WorldView>(out: &mut Vec<u8>, view: &V) -> Result<(), OutOfMemory>
-    ensures { OnOk result (out.new.items ≡ out.old.items ++ for_each (sum_line (V.world view.now).rows) (V.world view.now).count) }
-{
-    for env in 0..view.envs() {
-        push_sum_line(out, view.journal(), env)?;
     }
     Ok(())
 }
