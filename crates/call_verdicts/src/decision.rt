@@ -22,7 +22,8 @@ use mips_exec::Cpu;
 use world_model::{Call, Code, Deed, OwnDeed, Verdict, drop_refusal, take_refusal};
 
 /// The verdict on a call of the runner's; a number that names no call is refused. Each reader of the view is asked at
-/// most once.
+/// most once. A question is answered at once.
+#[inline(always)]
 pub fn decide<V: CallView>(view: &V, env: u8, call: Option<Call>) -> Verdict
     requires runs { running (V.world view.now).book.runner ≡ Some env }
     requires number { env < environment_numbers }
@@ -31,9 +32,27 @@ pub fn decide<V: CallView>(view: &V, env: u8, call: Option<Call>) -> Verdict
     requires numbers { (V.world view.now).book.next_claim < 2 ^ 32 }
     ensures { result ≡ verdict (V.world view.now) env call }
 {
-    let Some(call) = call else {
-        return Verdict::Refuse(Code::BadCall, 0);
-    };
+    match call {
+        None => Verdict::Refuse(Code::BadCall, 0),
+        Some(Call::Query) => {
+            let cpu = view.registers(env);
+            let first = cpu.reg(FIRST_ARGUMENT);
+            Verdict::of(ask(view, env, first, cpu.reg(SECOND_ARGUMENT)))
+        }
+        Some(call) => named_verdict(view, env, call),
+    }
+}
+
+/// The verdict on a call by its name.
+#[inline(never)]
+fn named_verdict<V: CallView>(view: &V, env: u8, call: Call) -> Verdict
+    requires runs { running (V.world view.now).book.runner ≡ Some env }
+    requires number { env < environment_numbers }
+    requires count { (V.world view.now).count < 2 ^ 8 }
+    requires own { ((V.world view.now).solos env).number ≡ env }
+    requires numbers { (V.world view.now).book.next_claim < 2 ^ 32 }
+    ensures { result ≡ verdict (V.world view.now) env (Some call) }
+{
     let cpu = view.registers(env);
     let first = cpu.reg(FIRST_ARGUMENT);
     let second = cpu.reg(SECOND_ARGUMENT);
@@ -65,13 +84,23 @@ pub fn decide<V: CallView>(view: &V, env: u8, call: Option<Call>) -> Verdict
     }
 }
 
-/// What a call does that is granted with a value, to a caller with these registers (`docs/KERNEL.md`).
+/// What a call does that is granted with a value, to a caller with these registers (`docs/KERNEL.md`). What only answers is
+/// told at once.
+#[inline(always)]
 pub fn deed_of(call: Option<Call>, value: u32, cpu: &Cpu) -> Deed
     ensures { result ≡ deed_of_call call value cpu.now }
 {
-    let Some(call) = call else {
-        return Deed::Answers;
-    };
+    match call {
+        None | Some(Call::Query | Call::OwnNumber | Call::Clock) => Deed::Answers,
+        Some(call) => named_deed(call, value, cpu),
+    }
+}
+
+/// The same of a call by its name.
+#[inline(never)]
+fn named_deed(call: Call, value: u32, cpu: &Cpu) -> Deed
+    ensures { result ≡ deed_of_call (Some call) value cpu.now }
+{
     let first = cpu.reg(FIRST_ARGUMENT);
     let second = cpu.reg(SECOND_ARGUMENT);
     match call {
