@@ -28,7 +28,23 @@ impl Board {
     }
 
     /// The runner's call is granted with a value, and does this, which it may.
+    #[inline(always)]
     fn grant(&mut self, env: u8, value: u32, deed: Deed)
+        requires runs { running self.old.slots.runner ≡ Some env }
+        requires room { 64 < self.old.ledger.spare }
+        requires numbers { self.old.claims.next < 2 ^ 32 }
+        requires may { May (world_of self.old) env deed }
+        ensures { self.new ≡ after_grant self.old env value deed }
+    {
+        match deed {
+            Deed::Answers => self.answer(Verdict::Grant(value)),
+            deed => self.do_deed(env, value, deed),
+        }
+    }
+
+    /// The same, where the call may do more than answer.
+    #[inline(never)]
+    fn do_deed(&mut self, env: u8, value: u32, deed: Deed)
         requires runs { running self.old.slots.runner ≡ Some env }
         requires room { 64 < self.old.ledger.spare }
         requires numbers { self.old.claims.next < 2 ^ 32 }
@@ -78,6 +94,7 @@ impl Board {
     }
 
     /// An environment is asked for a page within two quanta, if nothing is pending for it.
+    #[inline(never)]
     fn press(&mut self, env: u8)
         requires number { env < environment_numbers }
         requires room { 0 < self.old.ledger.spare }
@@ -90,6 +107,7 @@ impl Board {
     }
 
     /// A kernel call of the runner, which isn't an exit.
+    #[inline(always)]
     fn answer_call(&mut self, env: u8, call: Option<Call>)
         requires runs { running self.old.slots.runner ≡ Some env }
         requires room { 64 < self.old.ledger.spare }
@@ -114,6 +132,7 @@ impl Board {
     }
 
     /// The runner stands at a kernel call: it exits, or its call is served.
+    #[inline(always)]
     pub(crate) fn take_call(&mut self, env: u8)
         requires runs { running self.old.slots.runner ≡ Some env }
         requires room { 64 < self.old.ledger.spare }

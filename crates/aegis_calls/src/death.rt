@@ -13,6 +13,7 @@ impl Board {
     /// What an environment has whose slots are released goes: its pages are free, neither its bindings nor those of
     /// its pages are left, its interrupt lines are nobody's, its claims are withdrawn, nothing is asked of it, and it is
     /// dead.
+    #[inline(never)]
     pub(crate) fn bury(&mut self, env: u8, cause: Cause)
         requires there { env < length self.old.roster.list }
         requires released { HasNoPart env self.old.slots }

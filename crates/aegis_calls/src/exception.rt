@@ -10,6 +10,7 @@ impl Board {
     ghost use Rattle.board_model.specs.Doing.{after_trap};
 
     /// The runner goes on at its handler of exceptions, and where it has none it dies.
+    #[inline(never)]
     pub(crate) fn trap(&mut self, env: u8, exc: &Exc)
         requires runs { running self.old.slots.runner ≡ Some env }
         requires room { 64 < self.old.ledger.spare }

@@ -16,6 +16,7 @@ impl Board {
 
     /// An attempt of the runner's step, in user mode, over the rows of the TLB: how it ended, or None where a row was
     /// refilled, so that it is to be tried again.
+    #[inline(never)]
     fn try_step(&mut self, env: u8) -> Option<Outcome>
         requires { running self.old.slots.runner ≡ Some env }
         ensures { MatchOption result (IsRefilled self.old env self.new) (IsAttempted self.old env self.new) }
@@ -65,18 +66,27 @@ impl Board {
         let _random = self.machine.random();
     }
 
-    /// The machine makes one step for the runner. Its accesses go by the TLB, of which at most two rows are refilled.
+    /// The machine makes the runner's step where that is a call that can be fetched by the rows as they are: whether it is.
+    /// Otherwise nothing has changed.
     #[inline(always)]
-    pub(crate) fn run_machine(&mut self, env: u8) -> Outcome
+    fn make_call(&mut self, env: u8) -> bool
+        requires { running self.old.slots.runner ≡ Some env }
+        ensures shown { result ≡ true → self.new ≡ after_machine_step (with_lookups self.old env) env (step_seen self.old env) }
+        ensures outcome { result ≡ true → Call ≡ outcome_of (step_seen self.old env) }
+        ensures other { result ≡ false → self.new ≡ self.old }
+    {
+        self.law_sound();
+        self.try_call(env)
+    }
+
+    /// The machine makes one step for the runner. Its accesses go by the TLB, of which at most two rows are refilled.
+    fn run_machine(&mut self, env: u8) -> Outcome
         requires { running self.old.slots.runner ≡ Some env }
         ensures shown { self.new ≡ after_machine_step (with_lookups self.old env) env (step_seen self.old env) }
         ensures outcome { result ≡ outcome_of (step_seen self.old env) }
     {
         self.law_sound();
         self.law_tlb();
-        if self.try_call(env) {
-            return Outcome::Call;
-        }
         if let Some(outcome) = self.try_step(env) {
             return outcome;
         }
@@ -87,7 +97,23 @@ impl Board {
     }
 
     /// The runner makes a step, and its call or trap is handled.
+    #[inline(always)]
     pub(crate) fn run_step(&mut self, env: u8)
+        requires runs { running self.old.slots.runner ≡ Some env }
+        requires room { 64 < self.old.ledger.spare }
+        requires numbers { self.old.claims.next < 2 ^ 32 }
+        ensures { self.new ≡ after_runner_step (with_lookups self.old env) env (step_seen self.old env) }
+    {
+        if self.make_call(env) {
+            self.take_call(env);
+        } else {
+            self.make_step(env);
+        }
+    }
+
+    /// The same of any step.
+    #[inline(never)]
+    fn make_step(&mut self, env: u8)
         requires runs { running self.old.slots.runner ≡ Some env }
         requires room { 64 < self.old.ledger.spare }
         requires numbers { self.old.claims.next < 2 ^ 32 }

@@ -42,6 +42,7 @@ impl Board {
     /// What happens from outside, before the turn of its tick: a packet goes to the claim that matches it, or is dropped;
     /// a signal on an interrupt line sets the line's bit in the context page of its owner, if it has one; and a revocation
     /// asks an environment for pages.
+    #[inline(never)]
     pub fn happen(&mut self, what: &Occurrence)
         requires event { is_occurrence what.now ≡ true }
         requires time { self.old.time ≤ most_ticks }
@@ -86,6 +87,7 @@ impl Board {
 
     /// The next turn, where nobody runs: slots are forfeited whose holders owe, until one starts that owes nothing;
     /// else nothing. All environments must be there.
+    #[inline(always)]
     pub fn turn(&mut self)
         requires whole { self.old.roster.spare ≡ 0 }
         requires room { TURN_ROWS ≤ self.old.ledger.spare }
@@ -102,6 +104,7 @@ impl Board {
     }
 
     /// The runner's step, and its call or its death. No more claims were made so far than there were ticks.
+    #[inline(always)]
     pub fn step(&mut self)
         requires runs { IsSome (world_of self.old).book.runner }
         requires room { STEP_ROWS ≤ self.old.ledger.spare }
@@ -124,6 +127,7 @@ impl Board {
     }
 
     /// The runner's ticks left fall by one, and at none its slice ends, or it owes a quantum more; time rises by one.
+    #[inline(always)]
     pub fn timer(&mut self)
         requires time { self.old.time < most_ticks }
         requires room { STEP_ROWS ≤ self.old.ledger.spare }

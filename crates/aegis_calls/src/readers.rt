@@ -100,6 +100,7 @@ impl Board {
 
     /// Takes memory for so many rows of the ledger more, where it isn't there yet. Nothing else changes, so
     /// that whatever may follow may follow.
+    #[inline(never)]
     pub fn make_room(&mut self, rows: u32) -> Result<(), OutOfMemory>
         ensures room { OnOk result (rows ≤ self.new.ledger.spare) }
         ensures same { self.new ≡ with_spare self.old self.new.ledger.spare }

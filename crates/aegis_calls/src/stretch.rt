@@ -51,6 +51,7 @@ impl Board {
 
     /// A row is refilled for an address that the runner's next step may want, and then it makes plain ticks, the first of
     /// which missed there. If it makes none, nothing has changed.
+    #[inline(always)]
     fn run_refilled(&mut self, env: u8, address: u32, most: u32) -> Steps
         requires runs { running self.old.slots.runner ≡ Some env }
         requires time { self.old.time + most ≤ most_ticks }
@@ -89,6 +90,7 @@ impl Board {
     }
 
     /// The runner makes plain ticks, at most so many; the result is how many.
+    #[inline(always)]
     fn run_plain(&mut self, env: u8, most: u32) -> u32
         requires runs { running self.old.slots.runner ≡ Some env }
         requires time { self.old.time + most ≤ most_ticks }
@@ -118,6 +120,7 @@ impl Board {
     /// may be none. It ends before the last tick of the slice, before a deadline, and before a call, an exception or a step
     /// that misses twice, which are left to a tick by its parts. It changes no claim. No deadline is served in it, no turn
     /// taken, and nobody sends.
+    #[inline(always)]
     pub fn stretch(&mut self, most: u32) -> u32
         requires time { self.old.time + most ≤ most_ticks }
         ensures world { AreQuietTicks self.old self.new result }

@@ -15,6 +15,7 @@ impl Board {
     ghost use Rattle.board_model.specs.Doing.{after_timer_by, after_timer_phase, after_end, has_end, with_stop_kept, after_stop, after_use};
 
     /// The registers of an environment that is stopped are kept, and the ledger says so.
+    #[inline(never)]
     fn keep_stopped(&mut self, env: u8)
         requires there { env < length self.old.roster.list }
         requires room { 0 < self.old.ledger.spare }
@@ -39,6 +40,7 @@ impl Board {
     }
 
     /// The end of a slice is told to its environment, which handles it: all but what the slots are after it.
+    #[inline(never)]
     fn tell_end(&mut self, env: u8)
         requires there { env < length self.old.roster.list }
         requires handled { has_end self.old env ≡ true }
@@ -55,6 +57,7 @@ impl Board {
     }
 
     /// The ticks left of the runner's quantum fall by one; the result is what that brings, which is settled.
+    #[inline(always)]
     fn use_tick(&mut self, env: u8) -> Timer
         requires runs { running self.old.slots.runner ≡ Some env }
         requires room { 65 < self.old.ledger.spare }
@@ -75,6 +78,7 @@ impl Board {
 
     /// A tick of the runner's quantum is over: after the last one it is told, or it is stopped, and in time of
     /// grace its excess rises, and above the limit it dies.
+    #[inline(always)]
     fn count_down(&mut self, env: u8)
         requires runs { running self.old.slots.runner ≡ Some env }
         requires room { 65 < self.old.ledger.spare }
@@ -91,6 +95,7 @@ impl Board {
     }
 
     /// The timer counts for a runner, and time rises by one.
+    #[inline(always)]
     pub(crate) fn count(&mut self)
         requires room { 65 < self.old.ledger.spare }
         requires time { self.old.time < most_ticks }

@@ -20,6 +20,7 @@ impl Board {
     }
 
     /// What comes next in the vector of slots, where nobody runs: a slot is forfeited, or its holder starts.
+    #[inline(never)]
     fn next(&mut self) -> NextTurn
         requires nobody { IsNone self.old.slots.runner }
         requires whole { self.old.roster.spare ≡ 0 }
@@ -49,6 +50,7 @@ impl Board {
 
     /// Where nobody runs, the slots of holders that owe are forfeited, and the first holder that owes nothing
     /// starts with a full quantum.
+    #[inline(always)]
     pub(crate) fn take_turn(&mut self)
         requires whole { self.old.roster.spare ≡ 0 }
         requires room { owed_by_all self.old.slots < self.old.ledger.spare }

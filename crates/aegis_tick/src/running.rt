@@ -120,6 +120,7 @@ fn take_due<'a>(events: &'a [Event], next: &mut usize, soon: &mut u32, time: u32
 }
 
 /// These events, one after another.
+#[inline(always)]
 fn happen_all(board: &mut Board, events: &[Event]) -> Result<(), OutOfMemory>
     requires { MayHappen board.old }
     ensures world { OnOk result (world_of board.new ≡ world_with (occurrences events.now) (world_of board.old)) }
@@ -136,6 +137,7 @@ fn happen_all(board: &mut Board, events: &[Event]) -> Result<(), OutOfMemory>
 }
 
 /// What happens in a tick: these events, in their order. After Ok there are the rows for the rest of the tick.
+#[inline(always)]
 pub(crate) fn happen_first(board: &mut Board, events: &[Event]) -> Result<(), OutOfMemory>
     requires may { MayTick board.old }
     ensures world { OnOk result (world_of board.new ≡ world_with (occurrences events.now) (world_of board.old)) }

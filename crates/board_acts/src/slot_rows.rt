@@ -39,6 +39,7 @@ fn push_slots(journal: &mut Journal, slots: &Slots, time: u32, mask: u64)
 
 /// Releases the slots of an environment that dies: its own are empty, and those that it held for others are theirs
 /// again. The ledger tells its death, and what becomes of each slot.
+#[inline(never)]
 pub fn release_slots(slots: &mut Slots, journal: &mut Journal, time: u32, env: u8)
     requires number { env < environment_numbers }
     requires room { length slots.old.slots < journal.old.spare }
@@ -69,6 +70,7 @@ fn push_over(journal: &mut Journal, slots: &Slots, time: u32, env: u8, excess: u
 
 /// Settles what the timer brought to a runner, before anything else happens: the ledger tells of a quantum of grace
 /// that is over, and the slots of a runner that is to die are released.
+#[inline(always)]
 pub fn settle(slots: &mut Slots, journal: &mut Journal, time: u32, env: u8, timer: Timer)
     requires number { env < environment_numbers }
     requires room { length slots.old.slots + 1 < journal.old.spare }

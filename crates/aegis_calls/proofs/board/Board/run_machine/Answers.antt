@@ -1,7 +1,6 @@
 -- A step has at most two refills.
 use Rattle.std.proofs.Common.{arith, refl}
 use Rattle.board_model.proofs.Refills.{third_ends}
-use Rattle.aegis_calls.proofs.Attempts.{refilled_as_shown}
 use Rattle.aegis_calls.proofs.Runner.{runner_there}
 use Rattle.aegis_calls.proofs.board.Board.run_machine.Goals as goal
 
@@ -9,4 +8,4 @@ pub unwrap-requires : goal.unwrap-requires
 unwrap-requires c =
     third_ends c.args.self.now c.try_step.new.self c.try_step-2.new.self c.try_step-3.new.self c.args.env c.try_step-3.result
     (omega (arith, (runner_there refl c.law_sound.ensures c.requires), c.law_sound.ensures.few)) c.law_tlb.ensures
-    (refilled_as_shown (c.try_call.ensures.other c.if-try_call.false) c.in_default.ensures) c.in_default-try_step.ensures c.try_step-3.ensures
+    c.in_default.ensures c.in_default-try_step.ensures c.try_step-3.ensures
