@@ -1,6 +1,6 @@
 //! Steps one after another, of which the page that is fetched from is kept.
-ghost use Rattle.std.specs.Prelude.{◌≡◌, ◌%◌, ◌<◌, ◌≤◌, Ok, true, false, length};
-ghost use Rattle.mips_exec.specs.Step.{cpu_after, write_after};
+ghost use Rattle.std.specs.Prelude.{◌≡◌, ◌%◌, ◌<◌, ◌≤◌, Ok, true, false, length, IfNone, IfSome, IsSome};
+ghost use Rattle.mips_exec.specs.Step.{cpu_after, fetched, write_after};
 ghost use Rattle.mips_step.specs.Live.{HasZero, IsSameLive, joined};
 ghost use Rattle.mips_step.specs.WordStep.{has_retired};
 ghost use Rattle.r3k_machine.specs.Code.{IsCode, has};
@@ -48,8 +48,18 @@ fn retire_word(live: &mut Live<'_>, frames: &mut Frames, tlb: &Tlb, cp0: &Cp0, w
     retire_access(live, &mut bus, word)
 }
 
+/// Steps that were made of words in one page.
+#[derive(Clone, Copy)]
+struct PageSteps {
+    /// How many retired.
+    made: u32,
+    /// The word whose step would have done anything else, where one in the page is next; None where the program has left the
+    /// page, or no more steps may be made.
+    stopped_at: Option<u32>,
+}
+
 /// Steps of a running program, one after another, whose words stand in this page: at most so many, and as long as they
-/// retire; the result is how many. The first that would do anything else isn't made.
+/// retire. The first that would do anything else isn't made.
 #[inline(always)]
 fn run_page(
     live: &mut Live<'_>,
@@ -58,27 +68,39 @@ fn run_page(
     cp0: &Cp0,
     code: CodePage,
     most: u32,
-) -> u32
+) -> PageSteps
     requires zero { HasZero live.old }
     requires code { IsCode cp0.now tlb.now frames.old code }
     ensures same { IsSameLive live.old live.new }
     ensures zero { HasZero live.new }
-    ensures machine { record { cpu = joined live.new; frames = frames.new } ≡ after_row_steps cp0.now tlb.now (record { cpu = joined live.old; frames = frames.old }) result }
-    ensures retire { RowStepsRetire cp0.now tlb.now (record { cpu = joined live.old; frames = frames.old }) result }
-    ensures most { result ≤ most }
-    ensures stop { result < most → has code live.new.pc ≡ true → has_retired (row_step cp0.now tlb.now frames.new (joined live.new)) ≡ false }
+    ensures machine { record { cpu = joined live.new; frames = frames.new } ≡ after_row_steps cp0.now tlb.now (record { cpu = joined live.old; frames = frames.old }) result.made }
+    ensures retire { RowStepsRetire cp0.now tlb.now (record { cpu = joined live.old; frames = frames.old }) result.made }
+    ensures most { result.made ≤ most }
+    ensures stop { IfSome result.stopped_at (λ word. has_retired (row_step cp0.now tlb.now frames.new (joined live.new)) ≡ false) }
+    ensures word { IfSome result.stopped_at (λ word. fetched (row_answers cp0.now tlb.now frames.new) live.new.pc ≡ Ok word) }
+    ensures early { IsSome result.stopped_at → result.made < most }
+    ensures left { IfNone result.stopped_at (result.made < most → has code live.new.pc ≡ false) }
     ensures size { length frames.new ≡ length frames.old }
 {
     for done in 0..most {
         if !code.has(live.pc) {
-            return done;
+            return PageSteps {
+                made: done,
+                stopped_at: None,
+            };
         }
         let word = code.word(frames, tlb, cp0, live.pc);
         if !retire_word(live, frames, tlb, cp0, word) {
-            return done;
+            return PageSteps {
+                made: done,
+                stopped_at: Some(word),
+            };
         }
     }
-    most
+    PageSteps {
+        made: most,
+        stopped_at: None,
+    }
 }
 
 /// Steps that were made one after another.
@@ -109,9 +131,10 @@ pub(crate) fn run_rows(cpu: &mut Cpu, frames: &mut Frames, tlb: &Tlb, cp0: &Cp0,
             live.settle();
             return Steps { made, wanted };
         };
-        made += run_page(&mut live, frames, tlb, cp0, code, most - made);
-        if made < most && code.has(live.pc) {
-            let wanted = named_address(&live, code.word(frames, tlb, cp0, live.pc));
+        let steps = run_page(&mut live, frames, tlb, cp0, code, most - made);
+        made += steps.made;
+        if let Some(word) = steps.stopped_at {
+            let wanted = named_address(&live, word);
             live.settle();
             return Steps { made, wanted };
         }

@@ -11,3 +11,6 @@ returns-then-not-retire_word-clause-machine c = search (rules, cpu_stays, frames
 
 pub returns-then-not-retire_word-clause-stop : goal.returns-then-not-retire_word-clause-stop
 returns-then-not-retire_word-clause-stop c = search (rules, cpu_stays, frames_stay)
+
+pub returns-then-not-retire_word-clause-word : goal.returns-then-not-retire_word-clause-word
+returns-then-not-retire_word-clause-word c = search (rules, cpu_stays, frames_stay)

@@ -3,26 +3,22 @@ use Rattle.mips_step.specs.Live.{joined}
 use Rattle.r3k_machine.specs.Steps.{Running}
 use Rattle.r3k_machine.proofs.MoreSteps.{after_more, all_more, has_moved}
 use Rattle.r3k_machine.proofs.run.run_rows.Goals as goal
-use Rattle.r3k_machine.proofs.run.run_rows.Goals.{else-made-most-via-then-made-most+else-has, else-made-most-via-else-made-most}
 
 pub loop-made-preserved : goal.loop-made-preserved
 loop-made-preserved c = search (rules, after_more, all_more)
 
 pub loop-made-smaller : goal.loop-made-smaller
-loop-made-smaller c = elim c.else-made-most.branch [
-  | else-made-most-via-then-made-most+else-has w ↦ grind (arith, has_moved)
-  | else-made-most-via-else-made-most w ↦ omega (arith, c.loop-made-test.true, w.if-made-most.false)
-]
+loop-made-smaller c = grind (arith, has_moved)
 
-pub returns-then-has-clause-machine : goal.returns-then-has-clause-machine
-returns-then-has-clause-machine c =
+pub returns-in-Some-stopped_at-clause-machine : goal.returns-in-Some-stopped_at-clause-machine
+returns-in-Some-stopped_at-clause-machine c =
     let first : Running = record { cpu = c.args.cpu.now; frames = c.args.frames.now } in
     let before : Running = record { cpu = joined c.loop-made.live; frames = c.loop-made.frames } in
-    let ran = c.run_page-made.ensures.machine ∙ after_more c.args.cp0.now c.args.tlb.now first before c.loop-made.made c.run_page-made.result c.loop-made.invariant.machine in
+    let ran = c.run_page-steps.ensures.machine ∙ after_more c.args.cp0.now c.args.tlb.now first before c.loop-made.made c.run_page-steps.result.made c.loop-made.invariant.machine in
     search (rules, ran)
 
-pub returns-then-has-clause-retire : goal.returns-then-has-clause-retire
-returns-then-has-clause-retire c =
+pub returns-in-Some-stopped_at-clause-retire : goal.returns-in-Some-stopped_at-clause-retire
+returns-in-Some-stopped_at-clause-retire c =
     let first : Running = record { cpu = c.args.cpu.now; frames = c.args.frames.now } in
     let before : Running = record { cpu = joined c.loop-made.live; frames = c.loop-made.frames } in
-    all_more c.args.cp0.now c.args.tlb.now first before c.loop-made.made c.run_page-made.result c.loop-made.invariant.machine c.loop-made.invariant.retire c.run_page-made.ensures.retire
+    all_more c.args.cp0.now c.args.tlb.now first before c.loop-made.made c.run_page-steps.result.made c.loop-made.invariant.machine c.loop-made.invariant.retire c.run_page-steps.ensures.retire
