@@ -95,17 +95,15 @@ impl Slots {
         ensures answer { result ≡ timer_answer self.old has_end }
         ensures after { self.new ≡ after_timer self.old result }
     {
-        let Some(runner) = self.runner else {
+        let Some(runner) = &mut self.runner else {
             return Timer::Nothing;
         };
-        if runner.left == 1 {
-            return self.end_quantum(runner, has_end);
+        if runner.left != 1 {
+            runner.left -= 1;
+            return Timer::Nothing;
         }
-        self.runner = Some(Runner {
-            left: runner.left - 1,
-            ..runner
-        });
-        Timer::Nothing
+        let runner = *runner;
+        self.end_quantum(runner, has_end)
     }
 
     /// How many ticks the runner has left; none where nobody runs.
