@@ -2,6 +2,7 @@
 ghost use Rattle.std.specs.Prelude.{◌≡◌, ◌<◌, ◌≤◌, Some, OnOk, OnErr, IsOk, length, slice_get};
 ghost use Rattle.std.specs.Option.{option_map};
 ghost use Rattle.board_model.specs.Shown.{with_spare};
+ghost use Rattle.kernel_journal.specs.Ledger.{spare_after};
 ghost use Rattle.r3k_cp0.specs.Random.{first_random, random_end};
 ghost use Rattle.tlb_model.specs.Cache.{fills_of};
 
@@ -100,10 +101,11 @@ impl Board {
 
     /// Takes memory for so many rows of the ledger more, where it isn't there yet. Nothing else changes, so
     /// that whatever may follow may follow.
-    #[inline(never)]
+    #[inline(always)]
     pub fn make_room(&mut self, rows: u32) -> Result<(), OutOfMemory>
         ensures room { OnOk result (rows ≤ self.new.ledger.spare) }
         ensures same { self.new ≡ with_spare self.old self.new.ledger.spare }
+        ensures taken { OnOk result (self.new.ledger.spare ≡ spare_after self.old.ledger rows) }
         ensures world { world_of self.new ≡ world_of self.old }
         ensures there { rows ≤ self.old.ledger.spare → IsOk result × (self.new ≡ self.old) }
         ensures refused { OnErr result (self.new ≡ self.old) }

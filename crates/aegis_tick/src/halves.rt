@@ -16,6 +16,7 @@ pub const HALF_ROWS: u32 = 2 * STEP_ROWS as u32;
 
 /// The first half of a tick: the deadlines that have come are served, and the turn is taken, so that somebody runs. It
 /// takes no memory, and leaves the rows that the second half wants.
+#[inline(always)]
 pub fn begin_tick(board: &mut Board)
     requires may { MayTick board.old }
     requires room { TICK_ROWS ≤ board.old.ledger.spare }
@@ -30,6 +31,7 @@ pub fn begin_tick(board: &mut Board)
 }
 
 /// The second half: the runner's step with its call or death, and the timer. It takes no memory.
+#[inline(always)]
 pub fn finish_tick(board: &mut Board)
     requires may { MayFinish board.old }
     requires room { HALF_ROWS ≤ board.old.ledger.spare }

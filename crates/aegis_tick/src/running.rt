@@ -7,6 +7,7 @@ ghost use Rattle.board_model.specs.Showing.{world_of};
 ghost use Rattle.board_model.specs.Ticks.{IsFresh, IsSameTick, IsTicked, MayHappen, MayTick};
 ghost use Rattle.external_event.specs.EventValue.{EventValue};
 ghost use Rattle.external_event.specs.Order.{are_in_order};
+ghost use Rattle.kernel_journal.specs.Ledger.{spare_after};
 ghost use Rattle.world_model.specs.Book.{is_idle_book};
 ghost use Rattle.world_model.specs.Event.{happen, schedule_of};
 ghost use Rattle.world_model.specs.Tick.{tick_step};
@@ -33,10 +34,12 @@ pub const TICK_ROWS: u32 = (SERVE_ROWS + TURN_ROWS + 2 * STEP_ROWS) as u32;
 
 /// Takes memory for so many rows of the ledger more, where it isn't there yet. After Ok that many are
 /// spare, and all else is as before; after a refusal the board is as before.
+#[inline(always)]
 pub fn make_room(board: &mut Board, rows: u32) -> Result<(), OutOfMemory>
     ensures room { OnOk result (rows ≤ board.new.ledger.spare) }
     ensures world { world_of board.new ≡ world_of board.old }
     ensures same { board.new ≡ with_spare board.old board.new.ledger.spare }
+    ensures taken { OnOk result (board.new.ledger.spare ≡ spare_after board.old.ledger rows) }
     ensures there { rows ≤ board.old.ledger.spare → IsOk result × (board.new ≡ board.old) }
     ensures refused { OnErr result (board.new ≡ board.old) }
 {
@@ -59,6 +62,7 @@ pub fn event(board: &mut Board, event: &Event)
 /// One tick in which nothing happens from outside: the deadlines that have come, the turn, the runner's step, and the
 /// timer. It is its two halves, and takes no memory. A tick makes one claim at most, so that the number of the next claim is
 /// at most the time. It refills at most two rows of the TLB and forwards at most one miss, all of one environment.
+#[inline(always)]
 pub fn tick(board: &mut Board)
     requires may { MayTick board.old }
     requires room { TICK_ROWS ≤ board.old.ledger.spare }
@@ -154,6 +158,7 @@ pub(crate) fn happen_first(board: &mut Board, events: &[Event]) -> Result<(), Ou
 }
 
 /// One tick with what happens in it: these events, in their order, and then the rest of the tick.
+#[inline(always)]
 fn tick_with(board: &mut Board, events: &[Event]) -> Result<(), OutOfMemory>
     requires may { MayTick board.old }
     ensures world { OnOk result (world_of board.new ≡ tick_step (world_with (occurrences events.now) (world_of board.old))) }
