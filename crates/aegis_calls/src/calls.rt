@@ -1,7 +1,10 @@
 //! Kernel calls: a call is decided, answered, and what it does is done.
-ghost use Rattle.std.specs.Prelude.{◌≡◌, ◌<◌, ◌^◌, Some};
+ghost use Rattle.std.specs.Prelude.{◌≡◌, ◌<◌, ◌^◌, ℕ, Some, true};
 ghost use Rattle.aegis_limits.specs.Limits.{environment_numbers};
+ghost use Rattle.mips_exec.specs.declared.registers.Cpu.{Cpu};
 ghost use Rattle.world_model.specs.Book.{running};
+ghost use Rattle.world_model.specs.Call.{deed_of};
+ghost use Rattle.world_model.specs.declared.call.Deed.TheVariants.{Answers};
 ghost use Rattle.world_model.specs.May.{May};
 
 use crate::board::Board;
@@ -16,6 +19,17 @@ const CALL_NUMBER: u8 = 2;
 /// The register of an exit's code.
 const EXIT_CODE: u8 = 4;
 
+/// Whether a call only answers where it is granted.
+#[inline(always)]
+fn only_answers(call: Option<Call>) -> bool
+    ensures { result ≡ true → (value : ℕ) (cpu : Cpu) → deed_of call value cpu ≡ Answers }
+{
+    matches!(
+        call,
+        None | Some(Call::Query | Call::OwnNumber | Call::Clock)
+    )
+}
+
 impl Board {
     ghost use Rattle.board_model.specs.Doing.{after_answer, after_runner_call, after_grant, after_decision, with_one_asked};
     ghost use Rattle.board_model.specs.Showing.{world_of};
@@ -27,23 +41,36 @@ impl Board {
         answer(&mut self.machine.cpu, verdict);
     }
 
-    /// The runner's call is granted with a value, and does this, which it may.
+    /// The runner's call is granted with a value, and does what it may. A call that only answers makes no deed.
     #[inline(always)]
-    fn grant(&mut self, env: u8, value: u32, deed: Deed)
+    fn grant(&mut self, env: u8, call: Option<Call>, value: u32)
         requires runs { running self.old.slots.runner ≡ Some env }
         requires room { 64 < self.old.ledger.spare }
         requires numbers { self.old.claims.next < 2 ^ 32 }
-        requires may { May (world_of self.old) env deed }
-        ensures { self.new ≡ after_grant self.old env value deed }
+        requires may { May (world_of self.old) env (deed_of call value self.old.cpu) }
+        ensures { self.new ≡ after_grant self.old env value (deed_of call value self.old.cpu) }
     {
-        match deed {
-            Deed::Answers => self.answer(Verdict::Grant(value)),
-            deed => self.do_deed(env, value, deed),
+        if only_answers(call) {
+            self.answer(Verdict::Grant(value));
+        } else {
+            self.grant_deed(env, call, value);
         }
     }
 
     /// The same, where the call may do more than answer.
     #[inline(never)]
+    fn grant_deed(&mut self, env: u8, call: Option<Call>, value: u32)
+        requires runs { running self.old.slots.runner ≡ Some env }
+        requires room { 64 < self.old.ledger.spare }
+        requires numbers { self.old.claims.next < 2 ^ 32 }
+        requires may { May (world_of self.old) env (deed_of call value self.old.cpu) }
+        ensures { self.new ≡ after_grant self.old env value (deed_of call value self.old.cpu) }
+    {
+        let deed = deed_of(call, value, &self.machine.cpu);
+        self.do_deed(env, value, deed);
+    }
+
+    /// The runner's call is granted with a value, and does this, which it may.
     fn do_deed(&mut self, env: u8, value: u32, deed: Deed)
         requires runs { running self.old.slots.runner ≡ Some env }
         requires room { 64 < self.old.ledger.spare }
@@ -118,8 +145,7 @@ impl Board {
         match decide(self, env, call) {
             Verdict::Grant(value) => {
                 law_granted();
-                let deed = deed_of(call, value, &self.machine.cpu);
-                self.grant(env, value, deed);
+                self.grant(env, call, value);
             }
             Verdict::Again(who) => {
                 law_again();

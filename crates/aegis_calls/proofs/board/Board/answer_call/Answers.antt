@@ -5,7 +5,6 @@ use Rattle.revocation_book.specs.Richest.{AreRichest}
 use Rattle.world_model.specs.Call.{deed_of}
 use Rattle.world_model.specs.May.{May}
 use Rattle.world_model.specs.PageCalls.{revocations}
-use Rattle.board_model.specs.Shown.{Shown}
 use Rattle.board_model.specs.Showing.{world_of}
 use Rattle.board_model.proofs.Reading.{runner_registers}
 use Rattle.aegis_calls.proofs.board.Board.answer_call.Goals as goal
@@ -14,9 +13,8 @@ pub grant-requires-clause-may : goal.grant-requires-clause-may
 grant-requires-clause-may c =
     let now = c.args.self.now in
     let e = c.args.env in
-    let registers = ap (λ (s : Shown). s.cpu) c.self.view_is ∙ runner_registers now e c.law_sound.ensures c.requires.runs in
-    let deed = c.deed_of-deed.ensures ∙ ap (deed_of c.args.call c.in-Grant.value) registers in
-    subst (May (world_of now) e) (sym deed) (c.law_granted.ensures (world_of now) e c.args.call c.in-Grant.value (sym c.decide.ensures ∙ c.in-Grant.is))
+    let registers = runner_registers now e c.law_sound.ensures c.requires.runs in
+    subst (May (world_of now) e) (sym (ap (deed_of c.args.call c.in-Grant.value) registers)) (c.law_granted.ensures (world_of now) e c.args.call c.in-Grant.value (sym c.decide.ensures ∙ c.in-Grant.is))
 
 -- whom an allocation asks is one of the environments that there may be
 pub press-requires-clause-number : goal.press-requires-clause-number
