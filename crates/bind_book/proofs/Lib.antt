@@ -1,3 +1,4 @@
 mod Bound
+mod Marks
 pub mod Rows
 pub mod Swept

@@ -10,7 +10,7 @@ use Rattle.bind_book.specs.Stripe.{without, swept_from, swept_rows, goes_with}
 use Rattle.aegis_limits.specs.declared.version.Version.{Version}
 use Rattle.aegis_limits.specs.VersionLimits.{stripe_rows}
 
-swept_place : (count place : ℕ) (broken : ℕ → Binding → Bool) (rows : List (Option Binding)) (i : ℕ) → get_or (swept_from count place broken rows) i None ≡ without (broken ((place + i) / count)) (get_or rows i None)
+pub swept_place : (count place : ℕ) (broken : ℕ → Binding → Bool) (rows : List (Option Binding)) (i : ℕ) → get_or (swept_from count place broken rows) i None ≡ without (broken ((place + i) / count)) (get_or rows i None)
 swept_place count place broken [] i = refl
 swept_place count place broken (row ∷ rows) zero = let here : place + zero ≡ place = omega arith in rw here refl
 swept_place count place broken (row ∷ rows) (suc i) =

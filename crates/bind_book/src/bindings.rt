@@ -6,6 +6,7 @@ ghost use Rattle.page_book.specs.Rows.{row_in};
 ghost use Rattle.bind_book.specs.Stripe.{row_of, stripe_place, HasStripe, stripes, binding_at, empty_stripes, unbound, with_binding_in, leads_to_page, goes_with, swept};
 
 use crate::binding::Binding;
+use crate::page_marks::PageMarks;
 use crate::sweep::{break_page, clear_env};
 use aegis_limits::{OutOfMemory, Version, law_versions_are_within};
 use page_book::Pages;
@@ -17,17 +18,19 @@ use std::marker::Model;
 pub struct Bindings {
     version: Version,
     rows: Vec<Option<Binding>>,
+    marks: PageMarks,
 }
 
 impl Model for Bindings {
     ghost use Rattle.std.specs.Prelude.{◌≤◌, length};
+    ghost use Rattle.bind_book.specs.Marks.{AreMarked};
     ghost use Rattle.bind_book.specs.Stripe.{Stripes, most_places};
 
     ghost Value = { Stripes };
 
     ghost view = { λ b. record { version = b.version; rows = b.rows.items } };
 
-    ghost invariant = { λ b. length b.rows.items ≤ most_places };
+    ghost invariant = { λ b. (length b.rows.items ≤ most_places) × AreMarked b.marks b.rows.items };
 }
 
 impl Bindings {
@@ -39,7 +42,12 @@ impl Bindings {
         ensures { IfOk result (λ b. b ≡ empty_stripes version envs) }
     {
         let rows = vec![in alloc; None; place(version, envs, 0)]?;
-        Ok(Bindings { version, rows })
+        let marks = PageMarks::new(alloc)?;
+        Ok(Bindings {
+            version,
+            rows,
+            marks,
+        })
     }
 
     /// The version, by which stripes have their rows.
@@ -61,6 +69,7 @@ impl Bindings {
     {
         let row = row_of(self.version, vpn);
         let replaced = self.in_row(env, row);
+        self.marks.mark(page);
         self.rows[place(self.version, env, row)] = Some(Binding {
             vpn,
             page,
@@ -108,12 +117,18 @@ impl Bindings {
         }
     }
 
-    /// Breaks the bindings of a page, of all environments but this one, if one is spared.
+    /// Breaks the bindings of a page, of all environments but this one, if one is spared. Rows are looked at only where the
+    /// page has its mark, which it loses where nobody is spared.
     pub fn break_page(&mut self, page: u32, but: Option<u8>)
         ensures after { self.new ≡ swept (leads_to_page page but) self.old }
         ensures count { length self.new.rows ≡ length self.old.rows }
     {
-        break_page(&mut self.rows, self.version, page, but);
+        if self.marks.has(page) {
+            break_page(&mut self.rows, self.version, page, but);
+            if but.is_none() {
+                self.marks.unmark(page);
+            }
+        }
     }
 
     /// An environment is gone: its bindings go, and those of its pages that others have. The book of pages is the one

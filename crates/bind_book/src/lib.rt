@@ -1,12 +1,14 @@
 //! The book of bindings: at which of their VPNs environments see pages that they bound.
 //!
 //! Each environment has a stripe of as many rows as the version gives, and the binding of a VPN stands in the row of
-//! that number modulo these. The book is seen as the version and the list of all rows, those of environment 0 first.
+//! that number modulo these. The book is seen as the version and the list of all rows, those of environment 0 first. The
+//! marks of pages that may be bound aren't seen: they tell for which pages no row has to be read.
 #![tactic(auto)]
 
 mod binding;
 mod bindings;
 mod laws;
+mod page_marks;
 mod sweep;
 
 pub use binding::Binding;
