@@ -1,8 +1,9 @@
 -- One row more of those that a pass looks at.
 use Rattle.std.proofs.Common.{arith, refl, ap, sym, ◌∙◌, ◌≡◌, ◌<◌, ◌+◌, ◌++◌, ℕ, Bool, true, false, List, length, map, take, drop, [], ◌∷◌, ◌&&◌, ◌||◌, eqb, is_some, inl, inr}
-use Rattle.std.proofs.lemmas.Bool.{cases_Bool}
+use Rattle.std.proofs.lemmas.Bool.{cases_Bool, or_parts}
 use Rattle.std.proofs.lemmas.List.{get_or_default, set-get_or}
 use Rattle.std.proofs.lemmas.List.Edits.{map_over_more}
+use Rattle.std.specs.List.{list_any}
 use Rattle.r3k_tlb.specs.declared.row.Row.{Row}
 use Rattle.r3k_tlb.specs.Row.{emptied_row, fits, is_global, row_pid, row_vpn}
 use Rattle.r3k_tlb.specs.Rows.{emptied_if, emptied_where, first_fitting, has_pair, row_at, row_count, with_row_at}
@@ -46,3 +47,10 @@ none_of_pair vpn pid (x ∷ xs) none =
           let other : has_pair vpn pid x ≡ false = narrower (eqb (row_vpn x) vpn) (eqb (row_pid x) pid) (is_global x) is in
           rw other (ap (λ (rest : List Row). x ∷ rest) (none_of_pair vpn pid xs (rw is at none)))
     ]
+
+-- where a test says so of no row, none is emptied
+pub none_to_empty : (test : Row → Bool) (rows : List Row) → list_any test rows ≡ false → rows ≡ emptied_where test rows
+none_to_empty test [] none = refl
+none_to_empty test (x ∷ xs) none =
+    let parts = or_parts (test x) (list_any test xs) none in
+    rw parts.0 (ap (λ (rest : List Row). x ∷ rest) (none_to_empty test xs parts.1))

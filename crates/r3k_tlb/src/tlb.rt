@@ -1,5 +1,6 @@
 //! The TLB.
 ghost use Rattle.std.specs.Prelude.{◌≡◌, ◌<◌, Bool, IfSome, length, slice_get, unwrap_or, ℕ};
+ghost use Rattle.std.specs.List.{list_any};
 ghost use Rattle.r3k_tlb.specs.declared.row.Row.{Row};
 ghost use Rattle.r3k_tlb.specs.Row.{emptied_row, page_numbers, pid_numbers};
 ghost use Rattle.r3k_tlb.specs.Rows.{emptied_rows, emptied_where, first_fitting, first_fitting_place, has_page, has_pair, has_pid, row_at, row_count, with_row_at};
@@ -135,11 +136,24 @@ impl Tlb {
         }
     }
 
-    /// Empties the rows that lead to this page of physical memory.
+    /// Whether a row leads to this page of physical memory. All rows are asked, without a branch, several at once.
+    fn leads_to_page(&self, page: u32) -> bool
+        ensures { result ≡ list_any (has_page page) self.now }
+    {
+        let mut found = false;
+        for row in &self.rows {
+            found |= row.page() == page;
+        }
+        found
+    }
+
+    /// Empties the rows that lead to this page of physical memory, which most pages have none of.
     pub fn drop_page(&mut self, page: u32)
         ensures { self.new ≡ emptied_where (has_page page) self.old }
     {
-        self.drop_where(&OfPage { page });
+        if self.leads_to_page(page) {
+            self.drop_where(&OfPage { page });
+        }
     }
 
     /// Empties the rows of this virtual page and process.
