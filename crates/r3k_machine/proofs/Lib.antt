@@ -1,2 +1,3 @@
 mod Written
 mod MoreSteps
+mod Entering

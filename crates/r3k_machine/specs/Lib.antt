@@ -4,5 +4,6 @@ pub mod Lent
 pub mod Steps
 pub mod Code
 pub mod Machine
+pub mod Entry
 pub mod Exceptions
 pub mod System

@@ -1,12 +1,10 @@
 -- A step of the machine, and how it ends.
-use Rattle.std.specs.Prelude.{ℕ, ◌/◌, Bool, false, ◌&&◌, not, nat_lt, is_none, if◌then◌else◌, List, Result, Ok, Err}
+use Rattle.std.specs.Prelude.{ℕ, ◌/◌, Bool, ◌&&◌, nat_lt, is_none, if◌then◌else◌, List}
 use Rattle.mips_exec.specs.declared.exception.Exc.{Exc}
 use Rattle.mips_exec.specs.declared.exception.Outcome.{Outcome}
 use Rattle.mips_exec.specs.declared.exception.Outcome.TheVariants as outcome
 use Rattle.mips_exec.specs.Cpu.{blank_cpu}
-use Rattle.mips_exec.specs.declared.registers.Cpu.{Cpu}
-use Rattle.mips_exec.specs.Step.{Step, fetched}
-use Rattle.mips_step.specs.WordStep.{is_syscall}
+use Rattle.mips_exec.specs.Step.{Step}
 use Rattle.aegis_limits.specs.Limits.{page_size}
 use Rattle.r3k_tlb.specs.declared.row.Row.{Row}
 use Rattle.r3k_tlb.specs.Rows.{emptied_rows, first_fitting}
@@ -17,7 +15,7 @@ use Rattle.r3k_cp0.specs.Registers.{blank_cp0, current_pid}
 use Rattle.r3k_machine.specs.declared.machine.Machine.{Machine}
 use Rattle.r3k_machine.specs.declared.machine.MachineEnd.{MachineEnd}
 use Rattle.r3k_machine.specs.declared.machine.MachineEnd.TheVariants as ends
-use Rattle.r3k_machine.specs.Memory.{row_answers, row_step}
+use Rattle.r3k_machine.specs.Memory.{row_step}
 use Rattle.r3k_machine.specs.Translation.{user_end}
 
 -- the machine in which nothing has run
@@ -41,15 +39,6 @@ end_of cp0 rows (outcome.Trap exc) = end_of_trap cp0 rows exc
 -- the machine's step in user mode, over this memory
 abbrev pub user_step : Machine → List (List ℕ) → Step
 user_step m frames = row_step m.cp0 m.tlb frames m.cpu
-
--- a word that was fetched is a call of the kernel: SYSCALL outside a delay slot
-abbrev pub is_call_of : Cpu → Result ℕ Exc → Bool
-is_call_of cpu (Ok word) = not cpu.slot && is_syscall word
-is_call_of cpu (Err exc) = false
-
--- the machine stands at such a word
-abbrev pub stands_at_call : Machine → List (List ℕ) → Bool
-stands_at_call m frames = is_call_of m.cpu (fetched (row_answers m.cp0 m.tlb frames) m.cpu.pc)
 
 -- each attempted step lowers Random
 abbrev pub after_attempts : ℕ → Cp0 → Cp0

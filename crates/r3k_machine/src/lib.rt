@@ -3,12 +3,14 @@
 
 mod bus;
 mod code;
+mod entry;
 mod laws;
 mod machine;
 mod run;
 mod system;
 mod translation;
 
+pub use entry::Entry;
 pub use laws::law_retired_steps;
 pub use machine::{Machine, MachineEnd};
 pub use run::Steps;

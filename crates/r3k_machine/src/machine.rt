@@ -1,6 +1,6 @@
 //! The machine: its registers, its rows and coprocessor 0.
-ghost use Rattle.std.specs.Prelude.{◌≡◌, ◌<◌, ◌≤◌, ◌/◌, true, false, if◌then◌else◌, is_some, length};
-ghost use Rattle.mips_exec.specs.Step.{Called, cpu_after, outcome_of, write_after};
+ghost use Rattle.std.specs.Prelude.{◌≡◌, ◌<◌, ◌≤◌, ◌/◌, true, false, if◌then◌else◌, is_some, length, IfSome};
+ghost use Rattle.mips_exec.specs.Step.{cpu_after, outcome_of, write_after};
 ghost use Rattle.mips_step.specs.WordStep.{has_retired};
 ghost use Rattle.aegis_limits.specs.Limits.{page_size};
 ghost use Rattle.r3k_tlb.specs.Row.{pid_numbers};
@@ -8,18 +8,20 @@ ghost use Rattle.r3k_tlb.specs.Rows.{first_fitting};
 ghost use Rattle.r3k_cp0.specs.Random.{first_random, random_end};
 ghost use Rattle.r3k_cp0.specs.Registers.{cp0_reg, current_pid, is_user, with_cp0_reg};
 ghost use Rattle.r3k_machine.specs.Exceptions.{as_user, in_exception, interrupted, out_of_exception};
-ghost use Rattle.r3k_machine.specs.Machine.{after_attempts, blank_machine, end_of, end_of_trap, stands_at_call, user_step};
+ghost use Rattle.r3k_machine.specs.Machine.{after_attempts, blank_machine, end_of, end_of_trap, user_step};
+ghost use Rattle.r3k_machine.specs.Entry.{came_by, entry_at};
 ghost use Rattle.r3k_machine.specs.Memory.{frames_written};
 ghost use Rattle.r3k_machine.specs.System.{machine_step, with_random_fallen};
 ghost use Rattle.r3k_machine.specs.Steps.{RowStepsRetire, after_row_steps, wanted_behind};
 
 use crate::bus::RowBus;
 use crate::code::CodePage;
+use crate::entry::{Entry, entry_by};
 use crate::run::{Steps, run_rows};
 use crate::translation::{PAGE_BYTES, USER_END};
 use frame_store::Frames;
 use mips_exec::{Cpu, Exc, ExcCode, Outcome};
-use mips_step::{is_syscall, law_syscalls_call, step_user};
+use mips_step::{law_syscalls_call, step_user};
 use r3k_cp0::{Cp0, exception_vector};
 use r3k_tlb::Tlb;
 
@@ -109,33 +111,35 @@ impl Machine {
         step_user(&mut self.cpu, &mut bus)
     }
 
-    /// Whether the next step in user mode is a call of the kernel: a SYSCALL outside a delay slot.
+    /// By what the next step in user mode enters the kernel, if it is a call or a BREAK that can be fetched.
     #[inline(always)]
-    fn stands_at_call(&self, frames: &Frames) -> bool
-        ensures { result ≡ stands_at_call self.now frames.now }
+    fn entry_at(&self, frames: &Frames) -> Option<Entry>
+        ensures { result ≡ entry_at self.now frames.now }
     {
         match CodePage::at(frames, &self.tlb, &self.cp0, self.cpu.pc) {
-            Some(code) if !self.cpu.slot => {
-                is_syscall(code.word(frames, &self.tlb, &self.cp0, self.cpu.pc))
+            Some(code) => {
+                let word = code.word(frames, &self.tlb, &self.cp0, self.cpu.pc);
+                entry_by(self.cpu.slot, word)
             }
-            _ => false,
+            None => None,
         }
     }
 
-    /// Makes the next step in user mode if it is a call of the kernel that can be fetched, and says whether it is. Then
-    /// Random is lowered by one, and nothing else changes; otherwise nothing does.
+    /// Makes the next step in user mode if by it the program enters the kernel, and says by what: a call, or a BREAK, that
+    /// can be fetched. Then Random is lowered by one, and nothing else changes; otherwise nothing does.
+    #[tactic(auto, using(crate::proofs::Entering::entered))]
     #[inline(always)]
-    pub fn attempt_call(&mut self, frames: &Frames) -> bool
-        ensures stands { result ≡ stands_at_call self.old frames.now }
-        ensures called { result ≡ true → user_step self.old frames.now ≡ Called }
-        ensures machine { self.new ≡ if result then record self.old { cp0 = after_attempts 1 self.old.cp0 } else self.old }
+    pub fn attempt_entry(&mut self, frames: &Frames) -> Option<Entry>
+        ensures at { result ≡ entry_at self.old frames.now }
+        ensures came { IfSome result (λ entry. user_step self.old frames.now ≡ came_by entry) }
+        ensures machine { self.new ≡ if is_some result then record self.old { cp0 = after_attempts 1 self.old.cp0 } else self.old }
     {
         law_syscalls_call();
-        let is_call = self.stands_at_call(frames);
-        if is_call {
+        let entry = self.entry_at(frames);
+        if entry.is_some() {
             self.cp0.random.fall();
         }
-        is_call
+        entry
     }
 
     /// One step in user mode, over physical memory. It lowers Random by one, however it ends.

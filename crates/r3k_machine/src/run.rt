@@ -79,6 +79,7 @@ fn run_page(
     ensures stop { IfSome result.stopped_at (λ word. has_retired (row_step cp0.now tlb.now frames.new (joined live.new)) ≡ false) }
     ensures word { IfSome result.stopped_at (λ word. fetched (row_answers cp0.now tlb.now frames.new) live.new.pc ≡ Ok word) }
     ensures early { IsSome result.stopped_at → result.made < most }
+    ensures there { IsSome result.stopped_at → has code live.new.pc ≡ true }
     ensures left { IfNone result.stopped_at (result.made < most → has code live.new.pc ≡ false) }
     ensures size { length frames.new ≡ length frames.old }
 {
@@ -134,7 +135,12 @@ pub(crate) fn run_rows(cpu: &mut Cpu, frames: &mut Frames, tlb: &Tlb, cp0: &Cp0,
         let steps = run_page(&mut live, frames, tlb, cp0, code, most - made);
         made += steps.made;
         if let Some(word) = steps.stopped_at {
-            let wanted = named_address(&live, word);
+            // An access is read again: were it kept, the loop of the page would have a register less.
+            let wanted = if word < FIRST_ACCESS {
+                None
+            } else {
+                named_address(&live, code.word(frames, tlb, cp0, live.pc))
+            };
             live.settle();
             return Steps { made, wanted };
         }

@@ -1,0 +1,36 @@
+-- By what a program enters the kernel, where its word alone tells it: a call, or BREAK.
+use Rattle.std.specs.Prelude.{ℕ, Bool, ◌==◌, ◌&&◌, not, if◌then◌else◌, List, Option, Some, None, Result, Ok, Err}
+use Rattle.mips_isa.specs.Fields.{function_of, opcode_of}
+use Rattle.mips_exec.specs.declared.exception.Exc.{Exc}
+use Rattle.mips_exec.specs.declared.exception.ExcCode.TheVariants.{Bp}
+use Rattle.mips_exec.specs.declared.registers.Cpu.{Cpu}
+use Rattle.mips_exec.specs.Exception.{plain}
+use Rattle.mips_exec.specs.Step.{Called, Step, Trapped, fetched}
+use Rattle.mips_step.specs.WordStep.{is_syscall}
+use Rattle.r3k_machine.specs.declared.entry.Entry.{Entry}
+use Rattle.r3k_machine.specs.declared.entry.Entry.TheVariants.{Break, Call}
+use Rattle.r3k_machine.specs.declared.machine.Machine.{Machine}
+use Rattle.r3k_machine.specs.Memory.{row_answers}
+
+-- BREAK, with any code
+abbrev pub is_break : ℕ → Bool
+is_break word = opcode_of word == 0 && function_of word == 13
+
+-- by what a word enters the kernel, where its step stands in a delay slot or not: a call stands outside one, and BREAK
+-- anywhere
+abbrev pub entry_by : Bool → ℕ → Option Entry
+entry_by slot word = if not slot && is_syscall word then Some Call else (if is_break word then Some Break else None)
+
+-- the same of what was fetched; a fetch that is refused has no word
+abbrev pub entry_of : Cpu → Result ℕ Exc → Option Entry
+entry_of cpu (Ok word) = entry_by cpu.slot word
+entry_of cpu (Err exc) = None
+
+-- the same of the word at which the machine stands
+abbrev pub entry_at : Machine → List (List ℕ) → Option Entry
+entry_at m frames = entry_of m.cpu (fetched (row_answers m.cp0 m.tlb frames) m.cpu.pc)
+
+-- the step by which the kernel is entered: a call, or BREAK's exception, which has no address
+abbrev pub came_by : Entry → Step
+came_by Call = Called
+came_by Break = Trapped (plain Bp)
