@@ -1,9 +1,10 @@
 //! The verdict on a call, and what it does where it is granted.
-ghost use Rattle.std.specs.Prelude.{◌≡◌, ◌<◌, ◌^◌, Some};
+ghost use Rattle.std.specs.Prelude.{◌≡◌, ◌<◌, ◌^◌, Some, true};
 ghost use Rattle.aegis_limits.specs.Limits.{environment_numbers};
 ghost use Rattle.world_model.specs.Book.{running};
 ghost use Rattle.world_model.specs.Call.{deed_of as deed_of_call};
 ghost use Rattle.world_model.specs.Verdict.{verdict};
+ghost use Rattle.call_verdicts.specs.Answering.{HasNoDeed, only_answers};
 
 use crate::arguments::{
     ANY, FIRST_ARGUMENT, SECOND_ARGUMENT, THIRD_ARGUMENT, binding, presented, words,
@@ -84,20 +85,31 @@ fn named_verdict<V: CallView>(view: &V, env: u8, call: Call) -> Verdict
     }
 }
 
-/// What a call does that is granted with a value, to a caller with these registers (`docs/KERNEL.md`). What only answers is
-/// told at once.
+/// Whether a call only answers where it is granted: a number that names none, and the questions.
+#[inline(always)]
+pub fn only_answers(call: Option<Call>) -> bool
+    ensures answer { result ≡ only_answers call }
+    ensures deed { result ≡ true → HasNoDeed call }
+{
+    matches!(
+        call,
+        None | Some(Call::Query | Call::OwnNumber | Call::Clock)
+    )
+}
+
+/// What a call does that is granted with a value, to a caller with these registers (`docs/KERNEL.md`).
 #[inline(always)]
 pub fn deed_of(call: Option<Call>, value: u32, cpu: &Cpu) -> Deed
     ensures { result ≡ deed_of_call call value cpu.now }
 {
     match call {
-        None | Some(Call::Query | Call::OwnNumber | Call::Clock) => Deed::Answers,
+        None => Deed::Answers,
         Some(call) => named_deed(call, value, cpu),
     }
 }
 
-/// The same of a call by its name.
-#[inline(never)]
+/// The same of a call by its name. Both are inlined where the deed is done: elsewhere it would be copied and read again.
+#[inline(always)]
 fn named_deed(call: Call, value: u32, cpu: &Cpu) -> Deed
     ensures { result ≡ deed_of_call (Some call) value cpu.now }
 {
