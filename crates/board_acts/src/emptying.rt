@@ -44,12 +44,14 @@ pub fn drop_dead(tlb: &mut Tlb, pages: &Pages, env: u8)
     tlb.drop_where(&OfDead { pages, env });
 }
 
-/// Empties the rows of the pair that is bound, and of the binding that it replaces.
+/// Empties the rows of the pair that is bound, and of the binding that it replaces, which is often the same pair.
 pub fn drop_bound(tlb: &mut Tlb, env: u8, vpn: u32, replaced: Option<Binding>)
     ensures { tlb.new ≡ all_flushed (OfPair vpn env ∷ replaced_pair env replaced) tlb.old }
 {
     tlb.drop_pair(vpn, env);
     if let Some(binding) = replaced {
-        tlb.drop_pair(binding.vpn, env);
+        if binding.vpn != vpn {
+            tlb.drop_pair(binding.vpn, env);
+        }
     }
 }
