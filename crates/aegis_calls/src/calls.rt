@@ -1,15 +1,13 @@
 //! Kernel calls: a call is decided, answered, and what it does is done.
-ghost use Rattle.std.specs.Prelude.{◌≡◌, ◌<◌, ◌^◌, ℕ, Some, true};
+ghost use Rattle.std.specs.Prelude.{◌≡◌, ◌<◌, ◌^◌, Some};
 ghost use Rattle.aegis_limits.specs.Limits.{environment_numbers};
-ghost use Rattle.mips_exec.specs.declared.registers.Cpu.{Cpu};
 ghost use Rattle.world_model.specs.Book.{running};
 ghost use Rattle.world_model.specs.Call.{deed_of};
-ghost use Rattle.world_model.specs.declared.call.Deed.TheVariants.{Answers};
 ghost use Rattle.world_model.specs.May.{May};
 
 use crate::board::Board;
 use board_acts::answer;
-use call_verdicts::{decide, deed_of, law_again, law_granted};
+use call_verdicts::{decide, deed_of, law_again, law_granted, only_answers};
 use revocation_book::law_richest;
 use world_model::{Call, Cause, Deed, EXIT, Verdict};
 
@@ -18,17 +16,6 @@ const CALL_NUMBER: u8 = 2;
 
 /// The register of an exit's code.
 const EXIT_CODE: u8 = 4;
-
-/// Whether a call only answers where it is granted.
-#[inline(always)]
-fn only_answers(call: Option<Call>) -> bool
-    ensures { result ≡ true → (value : ℕ) (cpu : Cpu) → deed_of call value cpu ≡ Answers }
-{
-    matches!(
-        call,
-        None | Some(Call::Query | Call::OwnNumber | Call::Clock)
-    )
-}
 
 impl Board {
     ghost use Rattle.board_model.specs.Doing.{after_answer, after_runner_call, after_grant, after_decision, with_one_asked};

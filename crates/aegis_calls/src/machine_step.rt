@@ -1,14 +1,14 @@
 //! The step of the machine: what it does to the board's parts.
-ghost use Rattle.std.specs.Prelude.{◌≡◌, ◌<◌, ◌^◌, MatchOption, Some, true, false};
+ghost use Rattle.std.specs.Prelude.{◌≡◌, ◌<◌, ◌^◌, IfSome, IsNone, IsSome, MatchOption, Some};
 ghost use Rattle.mips_exec.specs.Step.{outcome_of};
-ghost use Rattle.mips_exec.specs.declared.exception.Outcome.TheVariants.{Call};
+ghost use Rattle.r3k_machine.specs.Entry.{came_by};
 ghost use Rattle.world_model.specs.Book.{running};
 
 use crate::board::Board;
 use board_acts::{answer_miss, space_in};
 use guest_memory::PAGE_BYTES;
-use mips_exec::Outcome;
-use r3k_machine::MachineEnd;
+use mips_exec::{Exc, ExcCode, Outcome};
+use r3k_machine::{Entry, MachineEnd};
 
 impl Board {
     ghost use Rattle.board_model.specs.Doing.{after_runner_step, after_machine_step, step_seen};
@@ -45,17 +45,17 @@ impl Board {
         }
     }
 
-    /// The runner's step where it is a call that can be fetched by the rows as they are: whether it is. Otherwise nothing has
-    /// changed.
+    /// The runner's step where by it the program enters the kernel, and its word can be fetched by the rows as they are: by
+    /// what. Otherwise nothing has changed.
     #[inline(always)]
-    fn try_call(&mut self, env: u8) -> bool
+    fn try_entry(&mut self, env: u8) -> Option<Entry>
         requires { running self.old.slots.runner ≡ Some env }
-        ensures call { result ≡ true → IsAttempted self.old env self.new Call }
-        ensures other { result ≡ false → self.new ≡ self.old }
+        ensures entry { IfSome result (λ entry. IsAttempted self.old env self.new (outcome_of (came_by entry))) }
+        ensures other { IsNone result → self.new ≡ self.old }
     {
         let machine = &mut self.machine;
         machine.set_user(env);
-        machine.attempt_call(&self.frames)
+        machine.attempt_entry(&self.frames)
     }
 
     /// Law: there are as many rows of the TLB as ever, and Random names one of them.
@@ -66,17 +66,17 @@ impl Board {
         let _random = self.machine.random();
     }
 
-    /// The machine makes the runner's step where that is a call that can be fetched by the rows as they are: whether it is.
-    /// Otherwise nothing has changed.
+    /// The machine makes the runner's step where by it the program enters the kernel, and its word can be fetched by the rows
+    /// as they are: by what. Otherwise nothing has changed.
     #[inline(always)]
-    fn make_call(&mut self, env: u8) -> bool
+    fn make_entry(&mut self, env: u8) -> Option<Entry>
         requires { running self.old.slots.runner ≡ Some env }
-        ensures shown { result ≡ true → self.new ≡ after_machine_step (with_lookups self.old env) env (step_seen self.old env) }
-        ensures outcome { result ≡ true → Call ≡ outcome_of (step_seen self.old env) }
-        ensures other { result ≡ false → self.new ≡ self.old }
+        ensures shown { IsSome result → self.new ≡ after_machine_step (with_lookups self.old env) env (step_seen self.old env) }
+        ensures outcome { IfSome result (λ entry. outcome_of (came_by entry) ≡ outcome_of (step_seen self.old env)) }
+        ensures other { IsNone result → self.new ≡ self.old }
     {
         self.law_sound();
-        self.try_call(env)
+        self.try_entry(env)
     }
 
     /// The machine makes one step for the runner. Its accesses go by the TLB, of which at most two rows are refilled.
@@ -104,10 +104,10 @@ impl Board {
         requires numbers { self.old.claims.next < 2 ^ 32 }
         ensures { self.new ≡ after_runner_step (with_lookups self.old env) env (step_seen self.old env) }
     {
-        if self.make_call(env) {
-            self.take_call(env);
-        } else {
-            self.make_step(env);
+        match self.make_entry(env) {
+            Some(Entry::Call) => self.take_call(env),
+            Some(Entry::Break) => self.trap(env, &Exc::plain(ExcCode::Bp)),
+            None => self.make_step(env),
         }
     }
 

@@ -1,5 +1,5 @@
 -- A page that may be taken is taken as the model says.
-use Rattle.std.proofs.Common.{◌≡◌, ◌∙◌, ap}
+use Rattle.std.proofs.Common.{◌∙◌, ap}
 use Rattle.board_model.specs.Showing.{world_of}
 use Rattle.aegis_calls.proofs.board.Board.take_page.Goals as goal
 
