@@ -1,5 +1,5 @@
 //! A tick in its two halves, for whoever looks at the board in between.
-ghost use Rattle.std.specs.Prelude.{◌≡◌, ◌≤◌, ◌+◌, length, OnOk, OnErr};
+ghost use Rattle.std.specs.Prelude.{◌≡◌, ◌≤◌, ◌+◌, ◌*◌, length, IsOk, OnOk, OnErr};
 ghost use Rattle.board_model.specs.Showing.{world_of};
 ghost use Rattle.board_model.specs.Ticks.{IsSameTick, IsTicked, MayTick};
 ghost use Rattle.tlb_course.specs.Course.{cache_finished, cache_served};
@@ -54,6 +54,7 @@ pub fn begin_with(board: &mut Board, events: &[Event]) -> Result<(), OutOfMemory
     ensures same { OnOk result (IsSameTick board.old board.new) }
     ensures room { OnOk result (HALF_ROWS ≤ board.new.ledger.spare) }
     ensures part { OnErr result (HappenedInPart (occurrences events.now) (world_of board.old) (world_of board.new)) }
+    ensures sure { TICK_ROWS * (length events.now + 1) ≤ board.old.ledger.spare → IsOk result }
 {
     happen_first(board, events)?;
     begin_tick(board);
