@@ -46,14 +46,14 @@ with_due period t b = record b { pending = b.pending || is_due period t }
 abbrev pub entering : Exc → Board → Board
 entering exc b = record b { machine = in_exception b.machine exc }
 
-abbrev pub is_break : ExcCode → Bool
-is_break code.Bp = true
-is_break _ = false
+abbrev pub is_breakpoint : ExcCode → Bool
+is_breakpoint code.Bp = true
+is_breakpoint _ = false
 
 -- a BREAK in kernel mode halts the board, and each other trap is an exception
 abbrev pub after_trap : Cp0 → Exc → Board → Ticked
 after_trap cp0 exc b =
-    if is_break exc.code && not (is_user cp0) then record { board = b; halted = true } else going (entering exc b)
+    if is_breakpoint exc.code && not (is_user cp0) then record { board = b; halted = true } else going (entering exc b)
 
 -- a step of the machine ended so: a call is the exception Sys
 abbrev pub after_end : MachineEnd → Board → Ticked
