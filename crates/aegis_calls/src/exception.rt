@@ -16,8 +16,10 @@ impl Board {
         requires room { 64 < self.old.ledger.spare }
         ensures { self.new ≡ after_trap self.old env exc.now }
     {
+        // Of a copy the host's compiler knows that no store to the guest's memory changes it.
+        let exc = *exc;
         let frame = self.roster.frame(env);
-        if !frame.raise(&mut self.frames, &mut self.machine.cpu, exc) {
+        if !frame.raise(&mut self.frames, &mut self.machine.cpu, &exc) {
             self.die(env, Cause::Trapped(exc.code));
         }
     }
