@@ -3,11 +3,11 @@ ghost use Rattle.std.specs.Prelude.{◌≡◌, ◌<◌, ◌≤◌, length, is_so
 ghost use Rattle.aegis_limits.specs.Limits.{most_pages, most_stripe_rows, vpn_end};
 ghost use Rattle.aegis_limits.specs.VersionLimits.{most_environments_of, stripe_rows};
 ghost use Rattle.page_book.specs.Rows.{row_in};
-ghost use Rattle.bind_book.specs.Stripe.{row_of, stripe_place, HasStripe, stripes, binding_at, empty_stripes, unbound, with_binding_in, leads_to_page, goes_with, swept};
+ghost use Rattle.bind_book.specs.Stripe.{row_of, stripe_place, HasStripe, stripes, binding_at, empty_stripes, of_number, unbound, with_binding_in, leads_to_page, goes_with, swept};
 
 use crate::binding::Binding;
 use crate::page_marks::PageMarks;
-use crate::sweep::{break_page, clear_env};
+use crate::sweep::{break_marked, clear_env};
 use aegis_limits::{OutOfMemory, Version, law_versions_are_within};
 use page_book::Pages;
 use std::alloc::Global;
@@ -59,6 +59,7 @@ impl Bindings {
 
     /// Binds a page, below `MOST_PAGES`, to the environment's VPN, below `VPN_END`. What stood in the row of that
     /// number gives way, and is the answer. All other rows stay.
+    #[inline(always)]
     pub fn bind(&mut self, env: u8, vpn: u32, page: u32, writable: bool) -> Option<Binding>
         requires stripe { HasStripe self.old env }
         requires number { vpn < vpn_end }
@@ -67,10 +68,10 @@ impl Bindings {
         ensures after { self.new ≡ with_binding_in self.old env (record { vpn = vpn; page = page; writable = writable }) }
         ensures count { length self.new.rows ≡ length self.old.rows }
     {
-        let row = row_of(self.version, vpn);
-        let replaced = self.in_row(env, row);
-        self.marks.mark(page);
-        self.rows[place(self.version, env, row)] = Some(Binding {
+        let at = place(self.version, env, row_of(self.version, vpn));
+        self.marks.mark(page, at as u32);
+        let replaced = self.rows[at];
+        self.rows[at] = Some(Binding {
             vpn,
             page,
             writable,
@@ -85,11 +86,14 @@ impl Bindings {
         ensures after { self.new ≡ unbound self.old env vpn }
         ensures count { length self.new.rows ≡ length self.old.rows }
     {
-        let bound = self.find(env, vpn).is_some();
-        if bound {
-            self.rows[place(self.version, env, row_of(self.version, vpn))] = None;
+        let at = place(self.version, env, row_of(self.version, vpn));
+        match self.rows.get_mut(at) {
+            Some(row) if is_of_vpn(*row, vpn) => {
+                *row = None;
+                true
+            }
+            _ => false,
         }
-        bound
     }
 
     /// The binding of the environment's VPN, if there is one.
@@ -118,16 +122,15 @@ impl Bindings {
     }
 
     /// Breaks the bindings of a page, of all environments but this one, if one is spared. Rows are looked at only where the
-    /// page has its mark, which it loses where nobody is spared.
+    /// page's mark says that they may lead to it. Where nobody is spared, none does any more.
     pub fn break_page(&mut self, page: u32, but: Option<u8>)
         ensures after { self.new ≡ swept (leads_to_page page but) self.old }
         ensures count { length self.new.rows ≡ length self.old.rows }
     {
-        if self.marks.has(page) {
-            break_page(&mut self.rows, self.version, page, but);
-            if but.is_none() {
-                self.marks.unmark(page);
-            }
+        let mark = self.marks.of(page);
+        break_marked(&mut self.rows, self.version, mark, page, but);
+        if but.is_none() {
+            self.marks.unmark(page);
         }
     }
 
@@ -149,6 +152,16 @@ fn row_of(version: Version, vpn: u32) -> u32
 {
     law_versions_are_within();
     vpn % version.stripe_rows()
+}
+
+/// Whether a row has the binding of this VPN.
+fn is_of_vpn(row: Option<Binding>, vpn: u32) -> bool
+    ensures { result ≡ is_some (of_number vpn row) }
+{
+    match row {
+        Some(binding) => binding.vpn == vpn,
+        None => false,
+    }
 }
 
 /// The place of an environment's row among all rows.

@@ -1,23 +1,26 @@
-//! Marks of pages to which a row may lead.
-ghost use Rattle.std.specs.Prelude.{◌≡◌, ◌<◌, Bool, false, true, IfOk, replicate, slice_set};
+//! Marks of pages, which say where rows may stand that lead to them.
+ghost use Rattle.std.specs.Prelude.{◌≡◌, ◌<◌, IfOk, replicate, slice_set};
 ghost use Rattle.aegis_limits.specs.Limits.{most_pages};
-ghost use Rattle.bind_book.specs.Marks.{is_marked};
+ghost use Rattle.bind_book.specs.declared.mark.Mark.TheVariants.{Nowhere};
+ghost use Rattle.bind_book.specs.Marks.{mark_of, marked_too};
 
+use crate::mark::Mark;
 use aegis_limits::{MOST_PAGES, OutOfMemory};
 use std::alloc::Global;
 use std::marker::Model;
 
-/// A mark for each page: where a page has none, no row leads to it.
+/// A mark for each page.
 #[derive(Drop)]
 pub(crate) struct PageMarks {
-    marks: Vec<bool>,
+    marks: Vec<Mark>,
 }
 
 impl Model for PageMarks {
-    ghost use Rattle.std.specs.Prelude.{◌≡◌, Bool, List, length};
+    ghost use Rattle.std.specs.Prelude.{◌≡◌, List, length};
     ghost use Rattle.aegis_limits.specs.Limits.{most_pages};
+    ghost use Rattle.bind_book.specs.declared.mark.Mark.{Mark};
 
-    ghost Value = { List Bool };
+    ghost Value = { List Mark };
 
     ghost view = { λ m. m.marks.items };
 
@@ -25,36 +28,48 @@ impl Model for PageMarks {
 }
 
 impl PageMarks {
-    /// No page has a mark. An `Err` says that there is no memory for the marks.
+    /// No row leads to any page. An `Err` says that there is no memory for the marks.
     pub fn new(alloc: Global) -> Result<PageMarks, OutOfMemory>
-        ensures { IfOk result (λ m. m ≡ replicate most_pages false) }
+        ensures { IfOk result (λ m. m ≡ replicate most_pages Nowhere) }
     {
-        let marks = vec![in alloc; false; MOST_PAGES as usize]?;
+        let marks = vec![in alloc; Mark::Nowhere; MOST_PAGES as usize]?;
         Ok(PageMarks { marks })
     }
 
-    /// Whether the page has a mark; one that isn't there has none.
-    pub fn has(&self, page: u32) -> bool
-        ensures { result ≡ is_marked self.now page }
+    /// The page's mark. No row leads to one that isn't there.
+    pub fn of(&self, page: u32) -> Mark
+        ensures { result ≡ mark_of self.now page }
     {
-        self.marks.get(page as usize).copied().unwrap_or(false)
+        self.marks
+            .get(page as usize)
+            .copied()
+            .unwrap_or(Mark::Nowhere)
     }
 
-    /// The page, below `MOST_PAGES`, has a mark from now on.
-    pub fn mark(&mut self, page: u32)
+    /// The row at this place may lead to the page, below `MOST_PAGES`, from now on too.
+    pub fn mark(&mut self, page: u32, place: u32)
         requires { page < most_pages }
-        ensures marks { self.new ≡ slice_set self.old page true }
-        ensures has { is_marked self.new page ≡ true }
+        ensures marks { self.new ≡ slice_set self.old page (marked_too (mark_of self.old page) place) }
+        ensures mark { mark_of self.new page ≡ marked_too (mark_of self.old page) place }
     {
-        self.marks[page as usize] = true;
+        let mark = &mut self.marks[page as usize];
+        match *mark {
+            Mark::Nowhere => *mark = Mark::At(place),
+            Mark::At(at) => {
+                if at != place {
+                    *mark = Mark::Anywhere;
+                }
+            }
+            Mark::Anywhere => {}
+        }
     }
 
-    /// The page, if there is one, has no mark from now on.
+    /// No row leads to the page, if there is one, from now on.
     pub fn unmark(&mut self, page: u32)
-        ensures { self.new ≡ slice_set self.old page false }
+        ensures { self.new ≡ slice_set self.old page Nowhere }
     {
         if let Some(mark) = self.marks.get_mut(page as usize) {
-            *mark = false;
+            *mark = Mark::Nowhere;
         }
     }
 }

@@ -1,16 +1,59 @@
 //! What a pass over the rows of all environments leaves.
-ghost use Rattle.std.specs.Prelude.{◌≡◌, ◌≤◌, ◌<◌, ◌/◌, None, if◌then◌else◌, length};
+ghost use Rattle.std.specs.Prelude.{◌≡◌, ◌≤◌, ◌<◌, ◌/◌, None, if◌then◌else◌, length, slice_index_or, slice_set};
 ghost use Rattle.page_book.specs.Row.{belongs_to};
 ghost use Rattle.page_book.specs.Rows.{row_in};
+ghost use Rattle.bind_book.specs.Marks.{IsMarked};
 ghost use Rattle.bind_book.specs.Stripe.{most_places, leads_to_page, goes_with, without, swept_rows};
 ghost use Rattle.aegis_limits.specs.VersionLimits.{stripe_rows};
 
 use crate::binding::Binding;
+use crate::mark::Mark;
 use aegis_limits::{Version, law_versions_are_within};
 use page_book::Pages;
 
-/// Breaks the bindings of a page, of all environments but this one, if one is spared.
-pub(crate) fn break_page(rows: &mut [Option<Binding>], version: Version, page: u32, but: Option<u8>)
+/// Breaks the bindings of a page, of all environments but this one, if one is spared. Only the rows are looked at of
+/// which the page's mark says that they may lead to it.
+pub(crate) fn break_marked(
+    rows: &mut [Option<Binding>],
+    version: Version,
+    mark: Mark,
+    page: u32,
+    but: Option<u8>,
+)
+    requires count { length rows.old ≤ most_places }
+    requires marked { IsMarked mark page rows.old }
+    ensures { rows.new ≡ swept_rows version (leads_to_page page but) rows.old }
+{
+    match mark {
+        Mark::Nowhere => {}
+        Mark::At(place) => break_row(rows, version, place as usize, page, but),
+        Mark::Anywhere => break_page(rows, version, page, but),
+    }
+}
+
+/// Breaks the binding at a place as `break_page` does, if there is one, and looks at no other row.
+fn break_row(
+    rows: &mut [Option<Binding>],
+    version: Version,
+    place: usize,
+    page: u32,
+    but: Option<u8>,
+)
+    requires { length rows.old ≤ most_places }
+    ensures { rows.new ≡ slice_set rows.old place (without (leads_to_page page but (place / stripe_rows version)) (slice_index_or rows.old place None)) }
+{
+    if place < rows.len() {
+        let row = rows[place];
+        rows[place] = if is_broken(row, env_of(version, place), page, but) {
+            None
+        } else {
+            row
+        };
+    }
+}
+
+/// Breaks the bindings of a page, of all environments but this one, if one is spared, wherever they stand.
+fn break_page(rows: &mut [Option<Binding>], version: Version, page: u32, but: Option<u8>)
     requires { length rows.old ≤ most_places }
     ensures { rows.new ≡ swept_rows version (leads_to_page page but) rows.old }
 {
