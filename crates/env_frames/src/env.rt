@@ -146,10 +146,15 @@ impl Env {
         self.mask = mask;
     }
 
-    /// The page of physical memory that is the context page, if the environment has one.
+    /// The page of physical memory that is the context page, if the environment has one. It is asked for first where it
+    /// mostly stands, as only page 0 may come before it.
     fn context_page(&self) -> Option<u32>
         ensures { result ≡ page_of self.now.mappings 1 }
     {
+        let first = self.mappings().first()?;
+        if first.vpn == CONTEXT_PAGE {
+            return Some(first.page);
+        }
         self.guaranteed(CONTEXT_PAGE).map(|mapping| mapping.page)
     }
 
