@@ -13,8 +13,11 @@ use Rattle.r3k_tlb.specs.declared.row.Row.{Row}
 use Rattle.r3k_cp0.specs.declared.registers.Cp0.{Cp0}
 use Rattle.r3k_cp0.specs.Random.{fallen}
 use Rattle.r3k_cp0.specs.Registers.{current_pid, is_user}
+use Rattle.r3k_machine.specs.declared.entry.Entry.{Entry}
+use Rattle.r3k_machine.specs.declared.entry.Entry.TheVariants.{Break, Call}
 use Rattle.r3k_machine.specs.declared.machine.Machine.{Machine}
 use Rattle.r3k_machine.specs.declared.machine.MachineEnd.TheVariants as ends
+use Rattle.r3k_machine.specs.Entry.{came_by}
 use Rattle.r3k_machine.specs.Machine.{after_attempts, end_of, user_step}
 use Rattle.r3k_machine.specs.Exceptions.{as_user}
 use Rattle.r3k_machine.specs.Memory.{frames_written, row_step}
@@ -28,6 +31,7 @@ use Rattle.tlb_model.specs.Lookups.{first_missing}
 use Rattle.board_model.specs.Stretch.{stretched}
 use Rattle.aegis_calls.proofs.Stretched.{stretch_sound}
 use Rattle.aegis_calls.specs.Cached.{FindRows, IsStuck}
+use Rattle.aegis_calls.specs.Entering.{StandsAt}
 use Rattle.mips_step.specs.WordStep.{has_retired}
 use Rattle.tlb_laws.specs.Laws.{FindsAreFlat, RunIsFlat, RunsFor, end_without_refill}
 use Rattle.tlb_laws.proofs.Running.{runs_are_flat}
@@ -235,6 +239,18 @@ module _ (b : Shown) (e : ℕ) (m n : Machine) (frames : List (List ℕ)) (made 
         subst (RowsAgree b.frames b.roster.list b.binds) (sym (rows_now ∙ ap (rows_after_miss random e (lookup_of b e (exc.bad / page_size))) rows_is)) agree in
         sound_machine (sound_frames frames size (sound_tlb (record { rows = rows; random = n.cp0.random; fills = fills }) now made.sound))
 
+-- ---- a step by which the program enters the kernel
+
+-- it is no refill
+pub entry_end : (cp0 : Cp0) (rows : List Row) (entry : Entry) → end_of cp0 rows (outcome_of (came_by entry)) ≡ end_without_refill (outcome_of (came_by entry))
+entry_end cp0 rows Call = refl
+entry_end cp0 rows Break = refl
+
+-- what is so of each thing that there may be
+pub if_some : (o : Option Entry) {P : Entry → Type 0} → ((entry : Entry) → o ≡ Some entry → P entry) → IfSome o P
+if_some None each = search rules
+if_some (Some entry) each = each entry refl
+
 -- ---- many steps that retire
 
 -- What the machine, in user mode for an environment, made of a run on a sound board.
@@ -269,3 +285,13 @@ module _ (b : Shown) (e : ℕ) (first m : Machine) (steps : ℕ) (cpu : first.cp
       let v = stretched b e steps in
       let flat = finds (lookup_of v) e cp0 b.tlb.rows v.frames v.cpu (runs_for v e cp0 (stretch_sound b e steps sound left) small pid user) found in
       sym (ap has_retired flat.step) ∙ stopped
+
+  -- where the machine says that by the next the program enters the kernel, it stands there
+  pub stands_behind : (cp0 : Cp0) → current_pid cp0 ≡ e → is_user cp0 ≡ true → steps < left_of b.slots.runner
+      → (entry : Entry) → row_step cp0 b.tlb.rows (stretched b e steps).frames (stretched b e steps).cpu ≡ came_by entry → StandsAt (stretched b e steps) e entry
+  stands_behind cp0 pid user left entry came =
+      let v = stretched b e steps in
+      let end = ap (λ st. end_of cp0 b.tlb.rows (outcome_of st)) came ∙ entry_end cp0 b.tlb.rows entry in
+      let f = flat_end (lookup_of v) e cp0 b.tlb.rows v.frames v.cpu (runs_for v e cp0 (stretch_sound b e steps sound left) small pid user)
+      (λ exc is. not_refill (outcome_of (came_by entry)) exc (sym end ∙ is)) in
+      record { found = ap (mapping_of_miss (lookup_of v e)) f.found; step = sym f.flat.step ∙ came }

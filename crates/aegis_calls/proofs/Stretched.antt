@@ -29,7 +29,7 @@ steps_size lookup m zero = refl
 steps_size lookup m (suc k) = let n = after_steps lookup m k in step_size n.frames lookup (write_after (next_step lookup n)) ∙ steps_size lookup m k
 
 -- the runner goes on, with so many ticks fewer
-abbrev passed : ℕ → Option Runner → Option Runner
+abbrev pub passed : ℕ → Option Runner → Option Runner
 passed k o = option_map (λ (r : Runner). record r { left = r.left - k }) o
 
 pub runs_on : (k : ℕ) (o : Option Runner) → running (passed k o) ≡ running o

@@ -1,3 +1,4 @@
 pub mod Cached
+pub mod Entering
 pub mod QuietTicks
 pub mod Rows

@@ -28,3 +28,4 @@ mod views;
 
 pub use board::Board;
 pub use phases::{CALL_ROWS, SERVE_ROWS, STEP_ROWS, TURN_ROWS};
+pub use stretch::Stretch;

@@ -13,6 +13,7 @@ use r3k_machine::{Entry, MachineEnd};
 impl Board {
     ghost use Rattle.board_model.specs.Doing.{after_runner_step, after_machine_step, step_seen};
     ghost use Rattle.board_model.specs.Refilling.{HasTlb, IsAttempted, IsRefilled, with_lookups};
+    ghost use Rattle.aegis_calls.specs.Entering.{StandsAt};
 
     /// An attempt of the runner's step, in user mode, over the rows of the TLB: how it ended, or None where a row was
     /// refilled, so that it is to be tried again.
@@ -96,8 +97,34 @@ impl Board {
         self.try_step(env).unwrap()
     }
 
-    /// The runner makes a step, and its call or trap is handled.
+    /// The machine makes the runner's step, by which it is known to enter the kernel: Random falls, and nothing else changes.
     #[inline(always)]
+    fn make_known(&mut self, env: u8, entry: Entry)
+        requires { StandsAt self.old env entry }
+        ensures shown { self.new ≡ after_machine_step (with_lookups self.old env) env (step_seen self.old env) }
+        ensures outcome { outcome_of (came_by entry) ≡ outcome_of (step_seen self.old env) }
+    {
+        self.machine.fall();
+    }
+
+    /// The runner makes its step, by which it is known to enter the kernel, and its call or trap is handled.
+    #[inline(always)]
+    pub(crate) fn run_entry(&mut self, env: u8, entry: Entry)
+        requires runs { running self.old.slots.runner ≡ Some env }
+        requires room { 64 < self.old.ledger.spare }
+        requires numbers { self.old.claims.next < 2 ^ 32 }
+        requires stands { StandsAt self.old env entry }
+        ensures { self.new ≡ after_runner_step (with_lookups self.old env) env (step_seen self.old env) }
+    {
+        self.make_known(env, entry);
+        match entry {
+            Entry::Call => self.take_call(env),
+            Entry::Break => self.trap(env, &Exc::plain(ExcCode::Bp)),
+        }
+    }
+
+    /// The runner makes a step, and its call or trap is handled.
+    #[inline(never)]
     pub(crate) fn run_step(&mut self, env: u8)
         requires runs { running self.old.slots.runner ≡ Some env }
         requires room { 64 < self.old.ledger.spare }

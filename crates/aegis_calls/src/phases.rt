@@ -5,6 +5,7 @@ ghost use Rattle.external_event.specs.EventValue.{is_occurrence};
 ghost use Rattle.world_model.specs.Book.{is_idle_book, running};
 ghost use Rattle.world_model.specs.Step.{Dies};
 ghost use Rattle.aegis_calls.specs.Cached.{IsCallCached};
+ghost use Rattle.aegis_calls.specs.Entering.{IsEntering, up_to_step};
 ghost use Rattle.world_model.specs.Event.{happen as event_phase};
 ghost use Rattle.world_model.specs.World.{after};
 ghost use Rattle.tlb_course.specs.Course.{cache_acted, cache_served, cache_stepped, cache_timed};
@@ -12,8 +13,11 @@ ghost use Rattle.world_model.specs.Tick.{served, turn as turn_phase, step as ste
 
 use crate::board::Board;
 use aegis_limits::{ENVIRONMENT_NUMBERS, EXCESS_LIMIT, MOST_PAGES, MOST_SLOTS};
-use board_model::{law_again_answered, law_call, law_happen, law_refusal, law_serving, law_step};
+use board_model::{
+    law_again_answered, law_call, law_happen, law_refusal, law_serving, law_step, law_stretch,
+};
 use external_event::Occurrence;
+use r3k_machine::Entry;
 use revocation_book::law_few_takings;
 use world_model::{Cause, WorldView};
 
@@ -123,6 +127,31 @@ impl Board {
         self.law_claim_numbers();
         if let Some(env) = self.runner() {
             self.run_step(env);
+        }
+    }
+
+    /// A tick up to its timer, where by its step the runner is known to enter the kernel: nothing comes before the step, and
+    /// its call or exception is handled. No more claims were made so far than there were ticks.
+    #[inline(always)]
+    pub fn enter(&mut self, entry: Entry)
+        requires entering { IsEntering self.old entry }
+        requires room { STEP_ROWS ≤ self.old.ledger.spare }
+        requires numbers { self.old.claims.next ≤ self.old.time }
+        ensures world { world_of self.new ≡ after (up_to_step (world_of self.old)) (step_phase (up_to_step (world_of self.old))) }
+        ensures tlb { self.new.tlb ≡ cache_stepped (up_to_step (world_of self.old)) (cache_served (world_of self.old) self.old.tlb) }
+        ensures time { self.new.time ≡ self.old.time }
+        ensures numbers { self.new.claims.next ≤ self.old.claims.next + 1 }
+        ensures whole { self.new.roster.spare ≡ self.old.roster.spare }
+        ensures room { self.old.ledger.spare ≤ self.new.ledger.spare + STEP_ROWS }
+    {
+        self.law_sound();
+        // Reads the time, and with it that it is a number of 32 bits, as that of the next claim.
+        let _time = self.time.ticks();
+        law_step();
+        law_stretch();
+        self.law_claim_numbers();
+        if let Some(env) = self.runner() {
+            self.run_entry(env, entry);
         }
     }
 

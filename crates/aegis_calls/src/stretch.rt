@@ -1,11 +1,12 @@
 //! Stretches of ticks in which the runner steps and nothing else happens, each as one call.
-ghost use Rattle.std.specs.Prelude.{◌≡◌, ◌≤◌, ◌<◌, ◌+◌, ◌-◌, IsSome, None, Some};
+ghost use Rattle.std.specs.Prelude.{◌≡◌, ◌≤◌, ◌<◌, ◌+◌, ◌-◌, IfSome, IsSome, None, Some};
 ghost use Rattle.aegis_limits.specs.Limits.{most_ticks};
 ghost use Rattle.revocation_book.specs.RevocationBook.{next_deadline};
 ghost use Rattle.slot_vector.specs.Slices.{left_of};
 ghost use Rattle.world_model.specs.Book.{is_idle_book, running};
 ghost use Rattle.board_model.specs.Stretch.{ArePlain, plain_ticks, stretched};
 ghost use Rattle.aegis_calls.specs.Cached.{AreCachedTicks, FindRows, GoesAsFar, IsStuck, stretched_with};
+ghost use Rattle.aegis_calls.specs.Entering.{IsEntering, StandsAt};
 ghost use Rattle.aegis_calls.specs.QuietTicks.{AreQuietTicks, AreSteadyTicks};
 
 use crate::board::Board;
@@ -13,7 +14,7 @@ use aegis_limits::VPN_END;
 use board_acts::{plain_most, refill, space_in};
 use board_model::law_stretch;
 use guest_memory::PAGE_BYTES;
-use r3k_machine::Steps;
+use r3k_machine::{Entry, Steps};
 use tlb_course::law_further;
 use tlb_laws::{law_finds, law_right_refill};
 use world_model::WorldView;
@@ -22,7 +23,17 @@ use world_model::WorldView;
 const NO_STEPS: Steps = Steps {
     made: 0,
     wanted: None,
+    entry: None,
 };
+
+/// Ticks in which nothing happened but steps of the runner's that retired.
+#[derive(Clone, Copy)]
+pub struct Stretch {
+    /// How many there were.
+    pub made: u32,
+    /// By what the runner enters the kernel in the next tick, where that is known; only where there might have been more.
+    pub entry: Option<Entry>,
+}
 
 impl Board {
     ghost use Rattle.board_model.specs.Showing.{world_of};
@@ -39,6 +50,7 @@ impl Board {
         ensures found { FindRows self.old env result.made }
         ensures most { result.made ≤ most }
         ensures wanted { IsSome result.wanted → result.made < most }
+        ensures entry { IfSome result.entry (λ entry. (result.made < most) × StandsAt self.new env entry) }
         ensures stop { result.made < most → IsStuck self.new env }
     {
         law_finds();
@@ -63,6 +75,7 @@ impl Board {
         ensures tlb { AreCachedTicks self.old self.new result.made }
         ensures most { result.made ≤ most }
         ensures wanted { IsSome result.wanted → result.made < most }
+        ensures entry { IfSome result.entry (λ entry. (result.made < most) × StandsAt self.new env entry) }
         ensures stop { result.made < most → IsStuck self.new env }
     {
         self.law_sound();
@@ -89,16 +102,18 @@ impl Board {
         NO_STEPS
     }
 
-    /// The runner makes plain ticks, at most so many; the result is how many.
+    /// The runner makes plain ticks, at most so many.
     #[inline(always)]
-    fn run_plain(&mut self, env: u8, most: u32) -> u32
+    fn run_plain(&mut self, env: u8, most: u32) -> Stretch
         requires runs { running self.old.slots.runner ≡ Some env }
         requires time { self.old.time + most ≤ most_ticks }
-        ensures after { self.new ≡ stretched_with self.old env result self.new.tlb }
-        ensures plain { ArePlain self.old env result }
-        ensures tlb { AreCachedTicks self.old self.new result }
-        ensures most { result ≤ most }
-        ensures stop { result < plain_ticks self.old.slots self.old.revocations self.old.time most → IsStuck self.new env }
+        ensures after { self.new ≡ stretched_with self.old env result.made self.new.tlb }
+        ensures plain { ArePlain self.old env result.made }
+        ensures tlb { AreCachedTicks self.old self.new result.made }
+        ensures most { result.made ≤ most }
+        ensures stop { result.made < plain_ticks self.old.slots self.old.revocations self.old.time most → IsStuck self.new env }
+        ensures early { IsSome result.entry → result.made < plain_ticks self.old.slots self.old.revocations self.old.time most }
+        ensures entry { IfSome result.entry (StandsAt self.new env) }
     {
         self.law_sound();
         law_stretch();
@@ -113,13 +128,44 @@ impl Board {
             }
             done += steps.made;
         }
-        done
+        Stretch {
+            made: done,
+            entry: steps.entry,
+        }
     }
 
-    /// Ticks in which nothing happens but a step of the runner's that retires, at most so many; the result is how many, and
-    /// may be none. It ends before the last tick of the slice, before a deadline, and before a call, an exception or a step
-    /// that misses twice, which are left to a tick by its parts. It changes no claim. No deadline is served in it, no turn
-    /// taken, and nobody sends.
+    /// Ticks in which nothing happens but a step of the runner's that retires, at most so many; there may be none. It ends
+    /// before the last tick of the slice, before a deadline, and before a call, an exception or a step that misses twice,
+    /// which are left to a tick by its parts; a call or a BREAK whose word is found is told. It changes no claim. No deadline
+    /// is served in it, no turn taken, and nobody sends.
+    #[inline(always)]
+    pub fn stretch_to_entry(&mut self, most: u32) -> Stretch
+        requires time { self.old.time + most ≤ most_ticks }
+        ensures world { AreQuietTicks self.old self.new result.made }
+        ensures steady { AreSteadyTicks self.old result.made }
+        ensures tlb { AreCachedTicks self.old self.new result.made }
+        ensures idle { is_idle_book (world_of self.new).book ≡ is_idle_book (world_of self.old).book }
+        ensures most { result.made ≤ most }
+        ensures stop { GoesAsFar self.old self.new most result.made }
+        ensures early { IsSome result.entry → result.made < most }
+        ensures entry { IfSome result.entry (IsEntering self.new) }
+        ensures time { self.new.time ≡ self.old.time + result.made }
+        ensures numbers { self.new.claims.next ≡ self.old.claims.next }
+        ensures whole { self.new.roster.spare ≡ self.old.roster.spare }
+        ensures ledger { self.new.ledger ≡ self.old.ledger }
+    {
+        self.law_sound();
+        law_stretch();
+        match self.runner() {
+            Some(env) => self.run_plain(env, most),
+            None => Stretch {
+                made: 0,
+                entry: None,
+            },
+        }
+    }
+
+    /// The same ticks; the result is how many there were.
     #[inline(always)]
     pub fn stretch(&mut self, most: u32) -> u32
         requires time { self.old.time + most ≤ most_ticks }
@@ -134,11 +180,6 @@ impl Board {
         ensures whole { self.new.roster.spare ≡ self.old.roster.spare }
         ensures ledger { self.new.ledger ≡ self.old.ledger }
     {
-        self.law_sound();
-        law_stretch();
-        match self.runner() {
-            Some(env) => self.run_plain(env, most),
-            None => 0,
-        }
+        self.stretch_to_entry(most).made
     }
 }

@@ -1,5 +1,5 @@
 //! Ticks and whole runs of a board.
-ghost use Rattle.std.specs.Prelude.{◌≡◌, ◌≤◌, ◌<◌, ◌+◌, ◌*◌, ◌==◌, drop, false, length, true, IfOk, IsOk, OnOk, OnErr};
+ghost use Rattle.std.specs.Prelude.{◌≡◌, ◌≤◌, ◌<◌, ◌+◌, ◌*◌, ◌==◌, drop, false, length, true, IfOk, IfSome, IsOk, OnOk, OnErr};
 ghost use Rattle.std.specs.List.{prefix_len, take_while};
 ghost use Rattle.aegis_limits.specs.Limits.{most_ticks};
 ghost use Rattle.board_model.specs.Shown.{with_spare};
@@ -16,6 +16,7 @@ ghost use Rattle.fills_law.specs.Fills.{AreFew};
 ghost use Rattle.run_model.specs.Excess.{IsAccounted};
 ghost use Rattle.run_model.specs.Run.{world_after_ticks, end_of_run};
 ghost use Rattle.tlb_course.specs.Course.{cache_after_ticks, cache_ticked};
+ghost use Rattle.aegis_calls.specs.Entering.{IsEntering};
 ghost use Rattle.aegis_tick.specs.Course.{HappenedInPart, IsCutOff, IsReady, IsSure, next_time_of, occurrences, world_with};
 
 use crate::halves::{begin_tick, finish_tick};
@@ -25,6 +26,7 @@ use aegis_limits::OutOfMemory;
 use external_event::Event;
 use fills_law::law_fills;
 use kernel_journal::RunEnd;
+use r3k_machine::Entry;
 use run_model::law_accounts;
 use tlb_course::law_further;
 use world_model::WorldView;
@@ -173,6 +175,42 @@ fn tick_with(board: &mut Board, events: &[Event]) -> Result<(), OutOfMemory>
     Ok(())
 }
 
+/// One tick in which nothing happens from outside, and by whose step the runner is known to enter the kernel.
+#[inline(always)]
+fn tick_entering(board: &mut Board, entry: Entry) -> Result<(), OutOfMemory>
+    requires may { MayTick board.old }
+    requires entering { IsEntering board.old entry }
+    ensures world { OnOk result (world_of board.new ≡ tick_step (world_of board.old)) }
+    ensures tlb { OnOk result (board.new.tlb ≡ cache_ticked (world_of board.old) board.old.tlb) }
+    ensures ticked { OnOk result (IsTicked board.old board.new) }
+    ensures refused { OnErr result (board.new ≡ board.old) }
+    ensures sure { IsSure 1 result board.old.ledger.spare board.new.ledger.spare }
+{
+    law_halves();
+    make_room(board, TICK_ROWS)?;
+    board.enter(entry);
+    board.timer();
+    Ok(())
+}
+
+/// One tick with what happens in it, as `tick_with` makes it, where it may be known by what the runner enters the kernel.
+#[inline(always)]
+fn tick_next(board: &mut Board, events: &[Event], entry: Option<Entry>) -> Result<(), OutOfMemory>
+    requires may { MayTick board.old }
+    requires entering { IfSome entry (IsEntering board.old) }
+    ensures world { OnOk result (world_of board.new ≡ tick_step (world_with (occurrences events.now) (world_of board.old))) }
+    ensures tlb { OnOk result (board.new.tlb ≡ cache_ticked (world_with (occurrences events.now) (world_of board.old)) board.old.tlb) }
+    ensures part { OnErr result (HappenedInPart (occurrences events.now) (world_of board.old) (world_of board.new)) }
+    ensures ticked { OnOk result (IsTicked board.old board.new) }
+    ensures early { OnErr result (IsSameTick board.old board.new × (board.new.tlb ≡ board.old.tlb)) }
+    ensures sure { IsSure (length events.now + 1) result board.old.ledger.spare board.new.ledger.spare }
+{
+    match entry {
+        Some(entry) if events.is_empty() => tick_entering(board, entry),
+        _ => tick_with(board, events),
+    }
+}
+
 /// So many ticks with the events of their times, or fewer where the board is idle before.
 fn run_ticks(board: &mut Board, events: &[Event], ticks: u32) -> Result<(), OutOfMemory>
     requires fresh { IsFresh board.old }
@@ -190,14 +228,17 @@ fn run_ticks(board: &mut Board, events: &[Event], ticks: u32) -> Result<(), OutO
     let mut next = 0;
     let mut soon = next_time(events, next);
     let mut done = 0;
+    let mut entry = None;
     while done < ticks {
         if board.idle() {
             return Ok(());
         }
         let now = take_due(events, &mut next, &mut soon, done);
-        tick_with(board, now)?;
+        tick_next(board, now, entry)?;
         done += 1;
-        done += board.stretch(ticks.min(soon) - done);
+        let stretch = board.stretch_to_entry(ticks.min(soon) - done);
+        done += stretch.made;
+        entry = stretch.entry;
     }
     Ok(())
 }

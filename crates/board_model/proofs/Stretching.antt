@@ -32,7 +32,7 @@ use Rattle.board_model.specs.Shown.{Environments, Shown}
 use Rattle.board_model.specs.Showing.{solo_or_absent, world_of}
 use Rattle.board_model.specs.declared.roster.Environment.{Environment}
 use Rattle.board_model.specs.Sound.{HasRunner, SlotsAgree, IsSoundBoard}
-use Rattle.board_model.specs.Stretch.{ArePlain, AreSteady, IsAtStep, IsOwnAct, IsOwnTick, IsQuiet, IsSteady, StretchIsSteady, StretchShowsModel, machine_of, stretched}
+use Rattle.board_model.specs.Stretch.{ArePlain, AreSteady, IsAtStep, IsOwnAct, IsOwnTick, IsQuiet, IsSteady, RunnersAreAtSteps, StretchIsSteady, StretchShowsModel, machine_of, stretched}
 use Rattle.board_model.proofs.Phases.{quiet_world}
 use Rattle.board_model.proofs.Repossessing.{nothing_due}
 use Rattle.board_model.proofs.Seen.{its_step, runner_runs, runner_seen, runner_solo}
@@ -143,7 +143,7 @@ module _ (serves : ServingShowsModel) (times : TimerShowsModel) where
   none_served : (b : Shown) → IsSoundBoard b → is_any_due b.revocations b.time ≡ false → world_of b ≡ served (world_of b)
   none_served b sound none = ap world_of (nothing_due b none) ∙ serves b sound
 
-  at_step : (b : Shown) (e : ℕ) → HasRunner b e → is_any_due b.revocations b.time ≡ false → IsAtStep (world_of b)
+  pub at_step : RunnersAreAtSteps
   at_step b e has none =
       ap (λ u. after_phase turn u) (sym (none_served b has.sound none)) ∙ still (world_of b) b.slots.runner e has.runs
 

@@ -1,7 +1,7 @@
 -- A stretch of plain ticks: in each of them the runner's step retires, and nothing else happens.
-use Rattle.std.specs.Prelude.{◌≡◌, ◌≤◌, ◌<◌, ℕ, ◌+◌, ◌-◌, min, [], Some}
+use Rattle.std.specs.Prelude.{◌≡◌, ◌≤◌, ◌<◌, ℕ, ◌+◌, ◌-◌, false, min, [], Some}
 use Rattle.guest_memory.specs.Steps.{AllRetire, Machine, after_steps}
-use Rattle.revocation_book.specs.RevocationBook.{RevocationBook, next_deadline}
+use Rattle.revocation_book.specs.RevocationBook.{RevocationBook, is_any_due, next_deadline}
 use Rattle.r3k_cp0.specs.Random.{fallen_times}
 use Rattle.slot_vector.specs.Slices.{Slices, after_ticks, left_of}
 use Rattle.world_model.specs.Book.{running}
@@ -57,6 +57,11 @@ StretchShowsModel =
 -- the world before the tick.
 abbrev pub IsAtStep : World → Type 0
 IsAtStep w = after_phase turn (served w) ≡ w
+
+-- So it is with a sound board whose runner's next tick comes before any deadline.
+abbrev pub RunnersAreAtSteps : Type 0
+RunnersAreAtSteps =
+    (b : Shown) (e : ℕ) → HasRunner b e → is_any_due b.revocations b.time ≡ false → IsAtStep (world_of b)
 
 -- a later world has the same runner, and nobody has sent anything
 pub record IsSteady (w later : World) : Type 0 where

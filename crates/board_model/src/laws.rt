@@ -1,6 +1,6 @@
 //! The laws of what a board shows: each part of a tick is that part of the model's.
 ghost use Rattle.board_model.specs.Laws.{AgainShowsModel, CallShowsModel, DeadlinesEndAsModel, DeathShowsModel, EventShowsModel, IdleShowsModel, RefusalShowsModel, ServingShowsModel, StepShowsModel, TakingShowsModel, TimerShowsModel, TurnShowsModel};
-ghost use Rattle.board_model.specs.Stretch.{StretchIsSteady, StretchShowsModel};
+ghost use Rattle.board_model.specs.Stretch.{RunnersAreAtSteps, StretchIsSteady, StretchShowsModel};
 
 use call_verdicts::{law_again, law_granted};
 use filter_tree::law_numbered;
@@ -51,10 +51,11 @@ pub fn law_timer()
 {}
 
 /// In a run in which nothing happens from outside during them, plain ticks are ticks of the model, and the runner and what
-/// was sent stay.
+/// was sent stay. Where somebody runs and no deadline has come, nothing comes before the step.
 pub fn law_stretch()
     ensures world { StretchShowsModel }
     ensures steady { StretchIsSteady }
+    ensures at_step { RunnersAreAtSteps }
 {
     law_serving();
     law_timer();

@@ -1,5 +1,6 @@
 -- The step of a word by which the kernel is entered.
-use Rattle.std.proofs.Common.{◌≡◌, ℕ, true, IfSome, List, Result, Ok, Err, rules}
+use Rattle.std.proofs.Common.{◌≡◌, ℕ, Bool, true, false, IfSome, List, Option, None, Result, Ok, Err, rules, subst, sym}
+use Rattle.std.specs.Prelude.{nat_lt, if◌then◌else◌}
 use Rattle.mips_isa.specs.Encoding.{insn_of, special_of}
 use Rattle.mips_isa.specs.Fields.{code_of}
 use Rattle.mips_isa.specs.declared.insn.Insn.{Insn}
@@ -13,9 +14,11 @@ use Rattle.mips_exec.specs.Exception.{plain}
 use Rattle.mips_exec.specs.Step.{Answers, Trapped, access_after, answered_if, decoded, executed, fetched}
 use Rattle.mips_step.specs.WordStep.{SyscallsCall, fetched_step}
 use Rattle.r3k_machine.specs.declared.machine.Machine.{Machine}
+use Rattle.r3k_machine.specs.declared.entry.Entry.{Entry}
 use Rattle.r3k_machine.specs.Entry.{came_by, entry_at, entry_of, is_break}
 use Rattle.r3k_machine.specs.Machine.{user_step}
 use Rattle.r3k_machine.specs.Memory.{row_answers}
+use Rattle.r3k_machine.specs.Steps.{entry_behind}
 
 named : (word : ℕ) → is_break word ≡ true → insn_of word ≡ Break (code_of word)
 unfolding insn_of special_of
@@ -40,3 +43,12 @@ comes law answers cpu (Ok word) = search (rules, law, breaks)
 -- the machine's step in user mode, by what it is said to enter the kernel
 pub entered : SyscallsCall → (m : Machine) (frames : List (List ℕ)) → IfSome (entry_at m frames) (λ entry. user_step m frames ≡ came_by entry)
 entered law m frames = comes law (row_answers m.cp0 m.tlb frames) m.cpu (fetched (row_answers m.cp0 m.tlb frames) m.cpu.pc)
+
+-- the same behind steps, of at most so many
+pub entered_behind : SyscallsCall → (made most : ℕ) (m : Machine) (frames : List (List ℕ)) (o : Option Entry)
+    → o ≡ entry_behind made most m.cp0 m.tlb (record { cpu = m.cpu; frames = frames }) → IfSome o (λ entry. user_step m frames ≡ came_by entry)
+entered_behind law made most m frames o is = by_test (nat_lt made most) is
+  where
+    by_test : (t : Bool) → o ≡ (if t then entry_at m frames else None) → IfSome o (λ entry. user_step m frames ≡ came_by entry)
+    by_test true here = subst (λ (x : Option Entry). IfSome x (λ entry. user_step m frames ≡ came_by entry)) (sym here) (entered law m frames)
+    by_test false none = search (rules, none)

@@ -13,7 +13,7 @@ use Rattle.r3k_machine.specs.declared.bus.RowBus.{RowBus}
 use Rattle.r3k_machine.specs.Lent.{IsKept, IsStored}
 use Rattle.r3k_machine.specs.Machine.{after_attempts}
 use Rattle.r3k_machine.specs.Memory.{frames_written, row_answers, row_step}
-use Rattle.r3k_machine.specs.Steps.{Running, wanted_behind}
+use Rattle.r3k_machine.specs.Steps.{Running, entry_behind, wanted_behind}
 
 -- there are as many pages after a write
 pub length_written : (cp0 : Cp0) (rows : List Row) (frames : List (List ℕ)) (w : Option Write)
@@ -69,3 +69,8 @@ pub wanted_without_random : (random made most : ℕ) (cp0 : Cp0) (rows : List Ro
     → wanted_behind made most (record cp0 { random = random }) rows s ≡ wanted_behind made most cp0 rows s
 unfolding row_answers
 wanted_without_random random made most cp0 rows s = refl
+
+pub entry_without_random : (random made most : ℕ) (cp0 : Cp0) (rows : List Row) (s : Running)
+    → entry_behind made most (record cp0 { random = random }) rows s ≡ entry_behind made most cp0 rows s
+unfolding row_answers
+entry_without_random random made most cp0 rows s = refl

@@ -7,6 +7,8 @@ use Rattle.mips_exec.specs.Step.{Step, cpu_after, fetched, outcome_of, write_aft
 use Rattle.mips_step.specs.WordStep.{named_address}
 use Rattle.r3k_tlb.specs.declared.row.Row.{Row}
 use Rattle.r3k_cp0.specs.declared.registers.Cp0.{Cp0}
+use Rattle.r3k_machine.specs.declared.entry.Entry.{Entry}
+use Rattle.r3k_machine.specs.Entry.{entry_of}
 use Rattle.r3k_machine.specs.Memory.{frames_written, row_answers, row_step}
 
 -- what steps change: the registers, and physical memory
@@ -51,3 +53,10 @@ wanted_address cp0 rows s = address_after s.cpu (fetched (row_answers cp0 rows s
 -- once so many steps of at most so many are made: none where no more may be
 abbrev pub wanted_behind : ℕ → ℕ → Cp0 → List Row → Running → Option ℕ
 wanted_behind made most cp0 rows s = if nat_lt made most then wanted_address cp0 rows s else None
+
+-- ---- by what the next step enters the kernel
+
+-- once so many steps of at most so many are made: by nothing where no more may be
+abbrev pub entry_behind : ℕ → ℕ → Cp0 → List Row → Running → Option Entry
+entry_behind made most cp0 rows s =
+    if nat_lt made most then entry_of s.cpu (fetched (row_answers cp0 rows s.frames) s.cpu.pc) else None

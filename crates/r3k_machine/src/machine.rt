@@ -12,7 +12,7 @@ ghost use Rattle.r3k_machine.specs.Machine.{after_attempts, blank_machine, end_o
 ghost use Rattle.r3k_machine.specs.Entry.{came_by, entry_at};
 ghost use Rattle.r3k_machine.specs.Memory.{frames_written};
 ghost use Rattle.r3k_machine.specs.System.{machine_step, with_random_fallen};
-ghost use Rattle.r3k_machine.specs.Steps.{RowStepsRetire, after_row_steps, wanted_behind};
+ghost use Rattle.r3k_machine.specs.Steps.{RowStepsRetire, after_row_steps, entry_behind, wanted_behind};
 
 use crate::bus::RowBus;
 use crate::code::CodePage;
@@ -181,10 +181,13 @@ impl Machine {
         ensures most { result.made ≤ most }
         ensures stop { result.made < most → has_retired (user_step self.new frames.new) ≡ false }
         ensures wanted { result.wanted ≡ wanted_behind result.made most self.new.cp0 self.new.tlb (record { cpu = self.new.cpu; frames = frames.new }) }
+        ensures entry { result.entry ≡ entry_behind result.made most self.new.cp0 self.new.tlb (record { cpu = self.new.cpu; frames = frames.new }) }
+        ensures came { IfSome result.entry (λ entry. user_step self.new frames.new ≡ came_by entry) }
         ensures size { length frames.new ≡ length frames.old }
         ensures rows { self.new.tlb ≡ self.old.tlb }
         ensures cp0 { self.new.cp0 ≡ after_attempts result.made self.old.cp0 }
     {
+        law_syscalls_call();
         let steps = run_rows(&mut self.cpu, frames, &self.tlb, &self.cp0, most);
         self.cp0.random.fall_times(steps.made);
         steps

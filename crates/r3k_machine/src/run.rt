@@ -5,10 +5,11 @@ ghost use Rattle.mips_step.specs.Live.{HasZero, IsSameLive, joined};
 ghost use Rattle.mips_step.specs.WordStep.{has_retired};
 ghost use Rattle.r3k_machine.specs.Code.{IsCode, has};
 ghost use Rattle.r3k_machine.specs.Memory.{frames_written, row_answers, row_step};
-ghost use Rattle.r3k_machine.specs.Steps.{RowStepsRetire, after_row_steps, wanted_behind};
+ghost use Rattle.r3k_machine.specs.Steps.{RowStepsRetire, after_row_steps, entry_behind, wanted_behind};
 
 use crate::bus::RowBus;
 use crate::code::CodePage;
+use crate::entry::{Entry, entry_by};
 use frame_store::Frames;
 use mips_exec::Cpu;
 use mips_step::{
@@ -112,6 +113,8 @@ pub struct Steps {
     /// What the next asks of memory, where more might have been made: the address that isn't fetched from, or else that of
     /// the word's load or store; None if the word has none.
     pub wanted: Option<u32>,
+    /// By what the next enters the kernel, where more might have been made; None where it doesn't.
+    pub entry: Option<Entry>,
 }
 
 /// Steps of the instruction table, one after another, at most so many, and as long as they retire.
@@ -122,6 +125,7 @@ pub(crate) fn run_rows(cpu: &mut Cpu, frames: &mut Frames, tlb: &Tlb, cp0: &Cp0,
     ensures most { result.made ≤ most }
     ensures stop { result.made < most → has_retired (row_step cp0.now tlb.now frames.new cpu.new) ≡ false }
     ensures wanted { result.wanted ≡ wanted_behind result.made most cp0.now tlb.now (record { cpu = cpu.new; frames = frames.new }) }
+    ensures entry { result.entry ≡ entry_behind result.made most cp0.now tlb.now (record { cpu = cpu.new; frames = frames.new }) }
     ensures size { length frames.new ≡ length frames.old }
 {
     let mut live = Live::of(cpu);
@@ -130,21 +134,31 @@ pub(crate) fn run_rows(cpu: &mut Cpu, frames: &mut Frames, tlb: &Tlb, cp0: &Cp0,
         let Some(code) = CodePage::at(frames, tlb, cp0, live.pc) else {
             let wanted = Some(live.pc);
             live.settle();
-            return Steps { made, wanted };
+            return Steps {
+                made,
+                wanted,
+                entry: None,
+            };
         };
         let steps = run_page(&mut live, frames, tlb, cp0, code, most - made);
         made += steps.made;
-        if let Some(word) = steps.stopped_at {
-            // An access is read again: were it kept, the loop of the page would have a register less.
-            let wanted = if word < FIRST_ACCESS {
-                None
-            } else {
-                named_address(&live, code.word(frames, tlb, cp0, live.pc))
-            };
+        if steps.stopped_at.is_some() {
+            // The word is read again: were it kept, the loop of the page would have a register less.
+            let word = code.word(frames, tlb, cp0, live.pc);
+            let wanted = named_address(&live, word);
             live.settle();
-            return Steps { made, wanted };
+            let entry = entry_by(cpu.slot, word);
+            return Steps {
+                made,
+                wanted,
+                entry,
+            };
         }
     }
     live.settle();
-    Steps { made, wanted: None }
+    Steps {
+        made,
+        wanted: None,
+        entry: None,
+    }
 }

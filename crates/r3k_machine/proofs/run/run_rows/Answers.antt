@@ -10,15 +10,15 @@ loop-made-preserved c = search (rules, after_more, all_more)
 pub loop-made-smaller : goal.loop-made-smaller
 loop-made-smaller c = grind (arith, has_moved)
 
-pub returns-in-Some-stopped_at-clause-machine : goal.returns-in-Some-stopped_at-clause-machine
-returns-in-Some-stopped_at-clause-machine c =
+pub returns-then-is_some-clause-machine : goal.returns-then-is_some-clause-machine
+returns-then-is_some-clause-machine c =
     let first : Running = record { cpu = c.args.cpu.now; frames = c.args.frames.now } in
     let before : Running = record { cpu = joined c.loop-made.live; frames = c.loop-made.frames } in
     let ran = c.run_page-steps.ensures.machine ∙ after_more c.args.cp0.now c.args.tlb.now first before c.loop-made.made c.run_page-steps.result.made c.loop-made.invariant.machine in
     search (rules, ran)
 
-pub returns-in-Some-stopped_at-clause-retire : goal.returns-in-Some-stopped_at-clause-retire
-returns-in-Some-stopped_at-clause-retire c =
+pub returns-then-is_some-clause-retire : goal.returns-then-is_some-clause-retire
+returns-then-is_some-clause-retire c =
     let first : Running = record { cpu = c.args.cpu.now; frames = c.args.frames.now } in
     let before : Running = record { cpu = joined c.loop-made.live; frames = c.loop-made.frames } in
     all_more c.args.cp0.now c.args.tlb.now first before c.loop-made.made c.run_page-steps.result.made c.loop-made.invariant.machine c.loop-made.invariant.retire c.run_page-steps.ensures.retire

@@ -1,13 +1,16 @@
 -- Plain ticks over the rows of the TLB.
-use Rattle.std.proofs.Common.{rules, ◌≡◌, ◌<◌, ◌-◌, ℕ, ap, ◌∙◌, refl, sym, subst, arith, Option, None}
-use Rattle.std.specs.Prelude.{◌≤◌, nat_lt, if◌then◌else◌, IsSome}
+use Rattle.std.proofs.Common.{rules, ◌≡◌, ◌<◌, ◌-◌, ℕ, ap, ◌∙◌, refl, sym, subst, arith, Option, None, Some}
+use Rattle.std.specs.Prelude.{◌≤◌, nat_lt, if◌then◌else◌, IfSome, IsSome}
 use Rattle.mips_step.specs.WordStep.{has_retired}
 use Rattle.r3k_cp0.specs.Registers.{current_pid, is_user}
 use Rattle.r3k_machine.specs.Memory.{row_step}
 use Rattle.revocation_book.specs.RevocationBook.{next_deadline}
 use Rattle.r3k_cp0.specs.declared.registers.Cp0.{Cp0}
 use Rattle.r3k_cp0.specs.Random.{fallen_times}
+use Rattle.r3k_machine.specs.declared.entry.Entry.{Entry}
 use Rattle.r3k_machine.specs.declared.machine.Machine.{Machine}
+use Rattle.r3k_machine.specs.Entry.{came_by}
+use Rattle.r3k_machine.specs.Machine.{user_step}
 use Rattle.r3k_machine.specs.Steps.{Running, after_row_steps}
 use Rattle.slot_vector.specs.Slices.{left_of}
 use Rattle.tlb_laws.specs.Laws.{RunIsFlat}
@@ -16,7 +19,8 @@ use Rattle.board_model.specs.Doing.{lookup_of}
 use Rattle.board_model.specs.Stretch.{ArePlain, stretched}
 use Rattle.aegis_limits.specs.Limits.{environment_numbers}
 use Rattle.aegis_calls.specs.Cached.{FindRows, IsStuck}
-use Rattle.aegis_calls.proofs.Attempts.{run_found, run_made, stuck_behind}
+use Rattle.aegis_calls.specs.Entering.{StandsAt}
+use Rattle.aegis_calls.proofs.Attempts.{if_some, run_found, run_made, stands_behind, stuck_behind}
 use Rattle.aegis_calls.proofs.Runner.{runner_live, seen}
 use Rattle.aegis_calls.proofs.board.Board.run_found.Goals as goal
 
@@ -102,3 +106,24 @@ some_more made most o some = search (rules, arith)
 
 pub returns-clause-wanted : goal.returns-clause-wanted
 returns-clause-wanted c = λ some. some_more c.run-steps.result.made c.args.most _ (subst IsSome c.run-steps.ensures.wanted some)
+
+-- where it stops at a word by which the program enters the kernel, the program stands there
+fewer : (made most : ℕ) (o p : Option Entry) (entry : Entry) → p ≡ (if nat_lt made most then o else None) → p ≡ Some entry → made < most
+fewer made most o p entry is some = search (rules, arith)
+
+pub returns-clause-entry : goal.returns-clause-entry
+returns-clause-entry c = if_some c.run-steps.result.entry (λ entry is.
+    let b = seen c.self.view_is in
+    let k = c.run-steps.result.made in
+    let made = ran c in
+    let kept : c.run-steps.new.self.tlb ≡ b.tlb.rows = c.run-steps.ensures.rows ∙ ap (λ (m : Machine). m.tlb) c.set_user.ensures.machine in
+    let came = subst (λ (o : Option Entry). IfSome o (λ entry. user_step c.run-steps.new.self c.run-steps.new.frames ≡ came_by entry)) is c.run-steps.ensures.came in
+    let comes = sym (λ i. row_step c.run-steps.new.self.cp0 (kept i) (made.1 i) (made.0 i)) ∙ came in
+    let pid = ap current_pid c.run-steps.ensures.cp0 ∙ c.set_user.ensures.pid in
+    let user = ap is_user c.run-steps.ensures.cp0 ∙ c.set_user.ensures.user in
+    let stands = stands_behind b c.args.env c.self.inside.machine c.set_user.new.self k refl refl c.self.invariant (small c)
+    c.set_user.ensures.machine c.set_user.ensures.user c.set_user.ensures.pid c.run-steps.ensures.retire
+    c.run-steps.new.self.cp0 pid user (left c) entry comes in (
+      fewer k c.args.most _ c.run-steps.result.entry entry c.run-steps.ensures.entry is,
+      subst (λ (s : Shown). StandsAt s c.args.env entry) (sym (after c)) stands,
+    ))

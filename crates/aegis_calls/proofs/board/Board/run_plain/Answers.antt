@@ -1,6 +1,10 @@
 -- Plain ticks, with refills between them.
-use Rattle.std.proofs.Common.{ap, ◌∙◌, arith}
+use Rattle.std.proofs.Common.{ap, ◌∙◌, ◌<◌, ◌-◌, arith, subst, Option}
+use Rattle.std.specs.Prelude.{IfSome}
+use Rattle.r3k_machine.specs.declared.entry.Entry.{Entry}
 use Rattle.board_model.specs.Shown.{Shown}
+use Rattle.aegis_calls.specs.Entering.{StandsAt}
+use Rattle.aegis_calls.proofs.Attempts.{if_some}
 use Rattle.aegis_calls.proofs.MoreTicks.{all_cached, all_plain, board_further, none_cached, with_its_tlb}
 use Rattle.aegis_calls.proofs.Plain.{stretch_falls}
 use Rattle.aegis_calls.proofs.board.Board.run_plain.Goals as goal
@@ -20,6 +24,7 @@ loop-steps-init c =
       most = first.most;
       wanted = first.wanted;
       stuck = first.stop;
+      entry = first.entry;
     }
 
 pub loop-steps-preserved : goal.loop-steps-preserved
@@ -39,6 +44,9 @@ loop-steps-preserved c =
       most = omega (arith, before.most, more.most);
       wanted = λ some. omega (arith, before.most, more.wanted some);
       stuck = λ less. more.stop (omega (arith, before.most, less));
+      entry = if_some c.run_refilled-steps.result.entry (λ entry is.
+          let has = subst (λ (o : Option Entry). IfSome o (λ x. (k < c.plain_most-plain.result - j) × StandsAt now e x)) is more.entry in
+          (omega (arith, before.most, has.0), has.1));
     }
 
 pub returns-then-steps-eq0-clause-tlb : goal.returns-then-steps-eq0-clause-tlb

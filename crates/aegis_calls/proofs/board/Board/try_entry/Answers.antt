@@ -1,5 +1,5 @@
 -- A step by which the program enters the kernel is the runner's, and changes neither registers nor memory.
-use Rattle.std.proofs.Common.{◌≡◌, ap, sym, ◌∙◌, refl, arith, rules, ℕ, List, Option, None, Some, subst}
+use Rattle.std.proofs.Common.{◌≡◌, ap, sym, ◌∙◌, refl, arith, ℕ, List, Option, Some, subst}
 use Rattle.std.specs.Prelude.{IfSome, if◌then◌else◌, is_some}
 use Rattle.mips_exec.specs.declared.registers.Cpu.{Cpu}
 use Rattle.mips_exec.specs.Step.{cpu_after, outcome_of, write_after}
@@ -11,8 +11,7 @@ use Rattle.r3k_machine.specs.declared.machine.Machine.{Machine}
 use Rattle.r3k_machine.specs.Entry.{came_by}
 use Rattle.r3k_machine.specs.Machine.{after_attempts, end_of, user_step}
 use Rattle.r3k_machine.specs.Memory.{frames_written}
-use Rattle.tlb_laws.specs.Laws.{end_without_refill}
-use Rattle.aegis_calls.proofs.Attempts.{IsMade, attempt_made, attempted_as_shown, made_of}
+use Rattle.aegis_calls.proofs.Attempts.{IsMade, attempt_made, attempted_as_shown, entry_end, if_some, made_of}
 use Rattle.aegis_calls.proofs.Runner.{runner_live, seen}
 use Rattle.aegis_calls.proofs.board.Board.try_entry.Goals as goal
 
@@ -24,11 +23,6 @@ memory_stays : (cp0 : Cp0) (rows : List Row) (frames : List (List ℕ)) (entry :
 unfolding frames_written
 memory_stays cp0 rows frames Call = refl
 memory_stays cp0 rows frames Break = refl
-
--- it is no refill
-end_is : (cp0 : Cp0) (rows : List Row) (entry : Entry) → end_of cp0 rows (outcome_of (came_by entry)) ≡ end_without_refill (outcome_of (came_by entry))
-end_is cp0 rows Call = refl
-end_is cp0 rows Break = refl
 
 module _ (c : goal.After-attempt_entry) (entry : Entry) (is : c.attempt_entry.result ≡ Some entry) where
   came : user_step c.set_user.new.self c.self.inside.frames ≡ came_by entry
@@ -51,13 +45,8 @@ module _ (c : goal.After-attempt_entry) (entry : Entry) (is : c.attempt_entry.re
       (ap (λ (x : Machine). x.tlb) machine_is)
       (ap (λ (x : Machine). x.cp0) machine_is)
 
--- what is so of each thing that there may be
-if_some : (o : Option Entry) {P : Entry → Type 0} → ((entry : Entry) → o ≡ Some entry → P entry) → IfSome o P
-if_some None each = search rules
-if_some (Some entry) each = each entry refl
-
 pub returns-clause-entry : goal.returns-clause-entry
 returns-clause-entry c = if_some c.attempt_entry.result (λ entry is.
     attempted_as_shown c.self.view_is
     (attempt_made (seen c.self.view_is) c.args.env c.set_user.new.self c.attempt_entry.new.self c.self.inside.frames (made_entry c entry is) (outcome_of (came_by entry))
-    (ap (λ st. end_of c.set_user.new.self.cp0 c.set_user.new.self.tlb (outcome_of st)) (came c entry is) ∙ end_is c.set_user.new.self.cp0 c.set_user.new.self.tlb entry)))
+    (ap (λ st. end_of c.set_user.new.self.cp0 c.set_user.new.self.tlb (outcome_of st)) (came c entry is) ∙ entry_end c.set_user.new.self.cp0 c.set_user.new.self.tlb entry)))

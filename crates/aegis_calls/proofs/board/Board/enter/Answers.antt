@@ -1,0 +1,45 @@
+-- Nothing comes before the step, which is the model's.
+use Rattle.std.proofs.Common.{◌≡◌, ◌<◌, ap, sym, ◌∙◌, refl, arith}
+use Rattle.aegis_limits.specs.Limits.{environment_numbers}
+use Rattle.world_model.specs.Tick.{step}
+use Rattle.world_model.specs.World.{World, after}
+use Rattle.tlb_course.specs.Course.{cache_served, cache_stepped}
+use Rattle.board_model.specs.Shown.{Shown}
+use Rattle.board_model.specs.Showing.{world_of}
+use Rattle.board_model.specs.Sound.{HasRunner}
+use Rattle.board_model.specs.Stretch.{IsAtStep}
+use Rattle.board_model.specs.Doing.{after_runner_step, step_seen}
+use Rattle.board_model.specs.Refilling.{with_lookups}
+use Rattle.board_model.proofs.Refills.{lookups_sound}
+use Rattle.board_model.proofs.Repossessing.{nothing_due}
+use Rattle.board_model.proofs.Serving.{Leaves}
+use Rattle.board_model.proofs.Stepping.{came_leaves}
+use Rattle.aegis_calls.proofs.Emptying.{served_empties}
+use Rattle.aegis_calls.proofs.Runner.{runner_there}
+use Rattle.aegis_calls.proofs.Looking.{stepped_course}
+use Rattle.aegis_calls.proofs.board.Board.enter.Goals as goal
+
+pub run_entry-requires-clause-stands : goal.run_entry-requires-clause-stands
+run_entry-requires-clause-stands c = c.requires.entering.stands c.in-Some.env (sym c.runner.ensures ∙ c.in-Some.is)
+
+pub returns-in-Some : goal.returns-in-Some
+returns-in-Some c =
+    let b = c.args.self.now in
+    let e = c.in-Some.env in
+    let runs = sym c.runner.ensures ∙ c.in-Some.is in
+    let small : e < environment_numbers = omega (arith, runner_there refl c.law_sound.ensures runs, c.law_sound.ensures.few) in
+    let has : HasRunner b e = record { sound = c.law_sound.ensures; runs = runs } in
+    let looked : HasRunner (with_lookups b e) e = record { sound = lookups_sound b e c.law_sound.ensures small; runs = runs } in
+    let leaves : Leaves (with_lookups b e) (after_runner_step (with_lookups b e) e (step_seen b e)) = came_leaves (with_lookups b e) e (step_seen b e) looked in
+    let now = c.run_entry.ensures in
+    let early = c.requires.entering.early in
+    let at : IsAtStep (world_of b) = c.law_stretch.ensures.at_step b e has early in
+    let kept : cache_served (world_of b) b.tlb ≡ b.tlb = sym (served_empties b) ∙ ap (λ (s : Shown). s.tlb) (sym (nothing_due b early)) in
+    record {
+      world = ap world_of now ∙ c.law_step.ensures (with_lookups b e) e looked c.law_claim_numbers.ensures ∙ ap (λ (w : World). after w (step w)) (sym at);
+      tlb = ap (λ (s : Shown). s.tlb) now ∙ stepped_course b e has b.slots.runner runs ∙ (λ i. cache_stepped (sym at i) (sym kept i));
+      time = ap (λ (s : Shown). s.time) now ∙ leaves.time;
+      numbers = omega (arith, ap (λ (s : Shown). s.claims.next) now, leaves.numbers);
+      whole = ap (λ (s : Shown). s.roster.spare) now ∙ leaves.spare;
+      room = omega (arith, ap (λ (s : Shown). s.ledger.spare) now, leaves.room);
+    }
