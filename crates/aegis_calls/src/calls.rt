@@ -1,13 +1,14 @@
 //! Kernel calls: a call is decided, answered, and what it does is done.
 ghost use Rattle.std.specs.Prelude.{◌≡◌, ◌<◌, ◌^◌, Some};
 ghost use Rattle.aegis_limits.specs.Limits.{environment_numbers};
+ghost use Rattle.world_model.specs.declared.call.Call.TheVariants.{Accept, Bind, Context, Put, Unbind};
 ghost use Rattle.world_model.specs.Book.{running};
 ghost use Rattle.world_model.specs.Call.{deed_of};
 ghost use Rattle.world_model.specs.May.{May};
 
 use crate::board::Board;
 use board_acts::answer;
-use call_verdicts::{decide, deed_of, law_again, law_granted, only_answers};
+use call_verdicts::{decide, deed_of, law_again, law_granted};
 use revocation_book::law_richest;
 use world_model::{Call, Cause, Deed, EXIT, Verdict};
 
@@ -28,25 +29,9 @@ impl Board {
         answer(&mut self.machine.cpu, verdict);
     }
 
-    /// The runner's call is granted with a value, and does what it may. A call that only answers makes no deed.
+    /// The runner's call is granted with a value, and does what it may.
     #[inline(always)]
     fn grant(&mut self, env: u8, call: Option<Call>, value: u32)
-        requires runs { running self.old.slots.runner ≡ Some env }
-        requires room { 64 < self.old.ledger.spare }
-        requires numbers { self.old.claims.next < 2 ^ 32 }
-        requires may { May (world_of self.old) env (deed_of call value self.old.cpu) }
-        ensures { self.new ≡ after_grant self.old env value (deed_of call value self.old.cpu) }
-    {
-        if only_answers(call) {
-            self.answer(Verdict::Grant(value));
-        } else {
-            self.grant_deed(env, call, value);
-        }
-    }
-
-    /// The same, where the call may do more than answer.
-    #[inline(never)]
-    fn grant_deed(&mut self, env: u8, call: Option<Call>, value: u32)
         requires runs { running self.old.slots.runner ≡ Some env }
         requires room { 64 < self.old.ledger.spare }
         requires numbers { self.old.claims.next < 2 ^ 32 }
@@ -58,6 +43,7 @@ impl Board {
     }
 
     /// The runner's call is granted with a value, and does this, which it may.
+    #[inline(always)]
     fn do_deed(&mut self, env: u8, value: u32, deed: Deed)
         requires runs { running self.old.slots.runner ≡ Some env }
         requires room { 64 < self.old.ledger.spare }
@@ -120,9 +106,10 @@ impl Board {
         }
     }
 
-    /// A kernel call of the runner, which isn't an exit.
+    /// A kernel call of the runner, which isn't an exit, is decided, answered, and done. It is inlined: where the call is
+    /// known it is the code of that call alone.
     #[inline(always)]
-    fn answer_call(&mut self, env: u8, call: Option<Call>)
+    fn settle_call(&mut self, env: u8, call: Option<Call>)
         requires runs { running self.old.slots.runner ≡ Some env }
         requires room { 64 < self.old.ledger.spare }
         requires numbers { self.old.claims.next < 2 ^ 32 }
@@ -141,6 +128,114 @@ impl Board {
                 self.answer(Verdict::Again(who));
             }
             refusal => self.answer(refusal),
+        }
+    }
+
+    /// A put. It and the next calls have functions of their own, which need few of the host's registers.
+    #[inline(never)]
+    fn settle_put(&mut self, env: u8)
+        requires runs { running self.old.slots.runner ≡ Some env }
+        requires room { 64 < self.old.ledger.spare }
+        requires numbers { self.old.claims.next < 2 ^ 32 }
+        ensures { self.new ≡ after_decision self.old env (Some Put) }
+    {
+        self.settle_call(env, Some(Call::Put));
+    }
+
+    /// A bind.
+    #[inline(never)]
+    fn settle_bind(&mut self, env: u8)
+        requires runs { running self.old.slots.runner ≡ Some env }
+        requires room { 64 < self.old.ledger.spare }
+        requires numbers { self.old.claims.next < 2 ^ 32 }
+        ensures { self.new ≡ after_decision self.old env (Some Bind) }
+    {
+        self.settle_call(env, Some(Call::Bind));
+    }
+
+    /// An unbind.
+    #[inline(never)]
+    fn settle_unbind(&mut self, env: u8)
+        requires runs { running self.old.slots.runner ≡ Some env }
+        requires room { 64 < self.old.ledger.spare }
+        requires numbers { self.old.claims.next < 2 ^ 32 }
+        ensures { self.new ≡ after_decision self.old env (Some Unbind) }
+    {
+        self.settle_call(env, Some(Call::Unbind));
+    }
+
+    /// The call of contexts.
+    #[inline(never)]
+    fn settle_context(&mut self, env: u8)
+        requires runs { running self.old.slots.runner ≡ Some env }
+        requires room { 64 < self.old.ledger.spare }
+        requires numbers { self.old.claims.next < 2 ^ 32 }
+        ensures { self.new ≡ after_decision self.old env (Some Context) }
+    {
+        self.settle_call(env, Some(Call::Context));
+    }
+
+    /// An accept.
+    #[inline(never)]
+    fn settle_accept(&mut self, env: u8)
+        requires runs { running self.old.slots.runner ≡ Some env }
+        requires room { 64 < self.old.ledger.spare }
+        requires numbers { self.old.claims.next < 2 ^ 32 }
+        ensures { self.new ≡ after_decision self.old env (Some Accept) }
+    {
+        self.settle_call(env, Some(Call::Accept));
+    }
+
+    /// The same of a call by its name, each in an arm of its own.
+    #[inline(never)]
+    fn settle_named(&mut self, env: u8, call: Call)
+        requires runs { running self.old.slots.runner ≡ Some env }
+        requires room { 64 < self.old.ledger.spare }
+        requires numbers { self.old.claims.next < 2 ^ 32 }
+        ensures { self.new ≡ after_decision self.old env (Some call) }
+    {
+        match call {
+            Call::Yield => self.settle_call(env, Some(Call::Yield)),
+            Call::Put => self.settle_put(env),
+            Call::Alloc => self.settle_call(env, Some(Call::Alloc)),
+            Call::Free => self.settle_call(env, Some(Call::Free)),
+            Call::Recap => self.settle_call(env, Some(Call::Recap)),
+            Call::Bind => self.settle_bind(env),
+            Call::Unbind => self.settle_unbind(env),
+            Call::Context => self.settle_context(env),
+            Call::Accept => self.settle_accept(env),
+            Call::Transfer => self.settle_call(env, Some(Call::Transfer)),
+            Call::SlotTake => self.settle_call(env, Some(Call::SlotTake)),
+            Call::SlotDrop => self.settle_call(env, Some(Call::SlotDrop)),
+            Call::Query => self.settle_call(env, Some(Call::Query)),
+            Call::Claim => self.settle_call(env, Some(Call::Claim)),
+            Call::Unclaim => self.settle_call(env, Some(Call::Unclaim)),
+            Call::Handler => self.settle_call(env, Some(Call::Handler)),
+            Call::Line => self.settle_call(env, Some(Call::Line)),
+            Call::Backup => self.settle_call(env, Some(Call::Backup)),
+            Call::Send => self.settle_call(env, Some(Call::Send)),
+            Call::OwnNumber => self.settle_call(env, Some(Call::OwnNumber)),
+            Call::Clock => self.settle_call(env, Some(Call::Clock)),
+        }
+    }
+
+    /// The same of any call: a question is answered at once, and the short calls are found at once.
+    #[inline(always)]
+    fn answer_call(&mut self, env: u8, call: Option<Call>)
+        requires runs { running self.old.slots.runner ≡ Some env }
+        requires room { 64 < self.old.ledger.spare }
+        requires numbers { self.old.claims.next < 2 ^ 32 }
+        ensures { self.new ≡ after_decision self.old env call }
+    {
+        match call {
+            Some(Call::Query) => self.settle_call(env, Some(Call::Query)),
+            Some(Call::Put) => self.settle_put(env),
+            Some(Call::Bind) => self.settle_bind(env),
+            Some(Call::Unbind) => self.settle_unbind(env),
+            Some(Call::Context) => self.settle_context(env),
+            Some(Call::Accept) => self.settle_accept(env),
+            Some(call) => self.settle_named(env, call),
+            None => self.settle_call(env, None),
         }
     }
 

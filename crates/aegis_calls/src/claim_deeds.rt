@@ -15,6 +15,7 @@ impl Board {
 
     /// The packets that a filter in the runner's memory matches, of so many atoms from an address on, are the runner's
     /// from now on, and go into a page of its own.
+    #[inline(never)]
     pub(crate) fn claim(&mut self, env: u8, address: u32, atoms: u32, page: u32)
         requires runs { running self.old.slots.runner ≡ Some env }
         requires may { MayClaim (world_of self.old) env self.old.claims.next address atoms page }
@@ -27,6 +28,7 @@ impl Board {
 
     /// The runner's claim of this number has a handler from now on, of so many words from an address in the runner's
     /// memory on; of no words it is none.
+    #[inline(never)]
     pub(crate) fn download(&mut self, env: u8, claim: u32, address: u32, words: u32)
         requires runs { running self.old.slots.runner ≡ Some env }
         requires may { MayDownload (solo_of self.old env) claim address words }

@@ -16,6 +16,7 @@ impl Board {
     ghost use Rattle.board_model.specs.Showing.{solo_of};
 
     /// The runner does this to itself alone, which it may.
+    #[inline(always)]
     pub(crate) fn do_own(&mut self, env: u8, own: OwnDeed)
         requires runs { running self.old.slots.runner ≡ Some env }
         requires may { MayOwn (solo_of self.old env) own }
@@ -45,6 +46,7 @@ impl Board {
     }
 
     /// A binding of the runner's takes the place of the one in its row.
+    #[inline(always)]
     pub(crate) fn bind(&mut self, env: u8, binding: Binding)
         requires runs { running self.old.slots.runner ≡ Some env }
         requires within { binding.vpn < vpn_end }
@@ -58,6 +60,7 @@ impl Board {
     }
 
     /// The binding of a VPN of the runner's goes, if there is one.
+    #[inline(always)]
     pub(crate) fn unbind(&mut self, env: u8, vpn: u32)
         requires runs { running self.old.slots.runner ≡ Some env }
         requires within { vpn < vpn_end }

@@ -45,6 +45,7 @@ pub fn drop_dead(tlb: &mut Tlb, pages: &Pages, env: u8)
 }
 
 /// Empties the rows of the pair that is bound, and of the binding that it replaces, which is often the same pair.
+#[inline(always)]
 pub fn drop_bound(tlb: &mut Tlb, env: u8, vpn: u32, replaced: Option<Binding>)
     ensures { tlb.new ≡ all_flushed (OfPair vpn env ∷ replaced_pair env replaced) tlb.old }
 {

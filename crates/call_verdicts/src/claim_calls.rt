@@ -45,6 +45,7 @@ fn judge(refusal: Option<ClaimNo>, next: u32) -> Verdict
 }
 
 /// The verdict on a claim of the runner's.
+#[inline(never)]
 pub(crate) fn decide_claim<V: CallView>(view: &V, env: u8) -> Verdict
     requires runs { running (V.world view.now).book.runner ≡ Some env }
     requires numbers { (V.world view.now).book.next_claim < 2 ^ 32 }

@@ -1,10 +1,9 @@
 //! The verdict on a call, and what it does where it is granted.
-ghost use Rattle.std.specs.Prelude.{◌≡◌, ◌<◌, ◌^◌, Some, true};
+ghost use Rattle.std.specs.Prelude.{◌≡◌, ◌<◌, ◌^◌, Some};
 ghost use Rattle.aegis_limits.specs.Limits.{environment_numbers};
 ghost use Rattle.world_model.specs.Book.{running};
 ghost use Rattle.world_model.specs.Call.{deed_of as deed_of_call};
 ghost use Rattle.world_model.specs.Verdict.{verdict};
-ghost use Rattle.call_verdicts.specs.Answering.{HasNoDeed, only_answers};
 
 use crate::arguments::{
     ANY, FIRST_ARGUMENT, SECOND_ARGUMENT, THIRD_ARGUMENT, binding, presented, words,
@@ -23,7 +22,7 @@ use mips_exec::Cpu;
 use world_model::{Call, Code, Deed, OwnDeed, Verdict, drop_refusal, take_refusal};
 
 /// The verdict on a call of the runner's; a number that names no call is refused. Each reader of the view is asked at
-/// most once. A question is answered at once.
+/// most once. It is inlined, and where the call is known it is the code of that call alone.
 #[inline(always)]
 pub fn decide<V: CallView>(view: &V, env: u8, call: Option<Call>) -> Verdict
     requires runs { running (V.world view.now).book.runner ≡ Some env }
@@ -35,17 +34,12 @@ pub fn decide<V: CallView>(view: &V, env: u8, call: Option<Call>) -> Verdict
 {
     match call {
         None => Verdict::Refuse(Code::BadCall, 0),
-        Some(Call::Query) => {
-            let cpu = view.registers(env);
-            let first = cpu.reg(FIRST_ARGUMENT);
-            Verdict::of(ask(view, env, first, cpu.reg(SECOND_ARGUMENT)))
-        }
         Some(call) => named_verdict(view, env, call),
     }
 }
 
 /// The verdict on a call by its name.
-#[inline(never)]
+#[inline(always)]
 fn named_verdict<V: CallView>(view: &V, env: u8, call: Call) -> Verdict
     requires runs { running (V.world view.now).book.runner ≡ Some env }
     requires number { env < environment_numbers }
@@ -83,18 +77,6 @@ fn named_verdict<V: CallView>(view: &V, env: u8, call: Call) -> Verdict
         Call::OwnNumber => Verdict::Grant(u32::from(env)),
         Call::Clock => Verdict::Grant(view.time()),
     }
-}
-
-/// Whether a call only answers where it is granted: a number that names none, and the questions.
-#[inline(always)]
-pub fn only_answers(call: Option<Call>) -> bool
-    ensures answer { result ≡ only_answers call }
-    ensures deed { result ≡ true → HasNoDeed call }
-{
-    matches!(
-        call,
-        None | Some(Call::Query | Call::OwnNumber | Call::Clock)
-    )
 }
 
 /// What a call does that is granted with a value, to a caller with these registers (`docs/KERNEL.md`).

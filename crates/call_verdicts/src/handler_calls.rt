@@ -57,6 +57,7 @@ fn judge(named: &Result<Handler, HandlerNo>) -> Verdict
 }
 
 /// The verdict on a download of the runner's.
+#[inline(never)]
 pub(crate) fn decide_download<V: CallView>(view: &V, env: u8) -> Verdict
     requires { running (V.world view.now).book.runner ≡ Some env }
     ensures { result ≡ download ((V.world view.now).solos env) }

@@ -17,7 +17,7 @@ mod slot_calls;
 mod view;
 
 pub use claim_calls::claimed_filter;
-pub use decision::{decide, deed_of, only_answers};
+pub use decision::{decide, deed_of};
 pub use handler_calls::named_handler;
 pub use laws::{law_again, law_granted};
 pub use view::CallView;

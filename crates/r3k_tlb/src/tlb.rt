@@ -157,6 +157,7 @@ impl Tlb {
     }
 
     /// Empties the rows of this virtual page and process.
+    #[inline(always)]
     pub fn drop_pair(&mut self, vpn: u32, pid: u8)
         ensures { self.new ≡ emptied_where (has_pair vpn pid) self.old }
     {

@@ -7,7 +7,7 @@ use Rattle.world_model.specs.May.{May}
 use Rattle.world_model.specs.PageCalls.{revocations}
 use Rattle.board_model.specs.Showing.{world_of}
 use Rattle.board_model.proofs.Reading.{runner_registers}
-use Rattle.aegis_calls.proofs.board.Board.answer_call.Goals as goal
+use Rattle.aegis_calls.proofs.board.Board.settle_call.Goals as goal
 
 pub grant-requires-clause-may : goal.grant-requires-clause-may
 grant-requires-clause-may c =
