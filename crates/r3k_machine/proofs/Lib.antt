@@ -1,3 +1,5 @@
 mod Written
 mod MoreSteps
+mod Table
 mod Entering
+mod Wanting

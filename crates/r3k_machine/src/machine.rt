@@ -1,5 +1,6 @@
 //! The machine: its registers, its rows and coprocessor 0.
-ghost use Rattle.std.specs.Prelude.{◌≡◌, ◌<◌, ◌≤◌, ◌/◌, true, false, if◌then◌else◌, is_some, length, IfSome};
+ghost use Rattle.std.specs.Prelude.{◌≡◌, ◌<◌, ◌≤◌, ◌/◌, true, false, if◌then◌else◌, is_some, length, IfSome, IsSome, None, Some};
+ghost use Rattle.mips_exec.specs.declared.exception.Exc.{Exc};
 ghost use Rattle.mips_exec.specs.Step.{cpu_after, outcome_of, write_after};
 ghost use Rattle.mips_step.specs.WordStep.{has_retired};
 ghost use Rattle.aegis_limits.specs.Limits.{page_size};
@@ -9,10 +10,11 @@ ghost use Rattle.r3k_cp0.specs.Random.{first_random, random_end};
 ghost use Rattle.r3k_cp0.specs.Registers.{cp0_reg, current_pid, is_user, with_cp0_reg};
 ghost use Rattle.r3k_machine.specs.Exceptions.{as_user, in_exception, interrupted, out_of_exception};
 ghost use Rattle.r3k_machine.specs.Machine.{after_attempts, blank_machine, end_of, end_of_trap, user_step};
-ghost use Rattle.r3k_machine.specs.Entry.{came_by, entry_at};
+ghost use Rattle.r3k_machine.specs.declared.machine.MachineEnd.TheVariants as ends;
+ghost use Rattle.r3k_machine.specs.Entry.{came_by, entry_at, entry_in, next_entry};
 ghost use Rattle.r3k_machine.specs.Memory.{frames_written};
 ghost use Rattle.r3k_machine.specs.System.{machine_step, with_random_fallen};
-ghost use Rattle.r3k_machine.specs.Steps.{RowStepsRetire, after_row_steps, entry_behind, wanted_behind};
+ghost use Rattle.r3k_machine.specs.Steps.{RowStepsRetire, after_row_steps, wanted_behind};
 
 use crate::bus::RowBus;
 use crate::code::CodePage;
@@ -127,10 +129,9 @@ impl Machine {
 
     /// Makes the next step in user mode if by it the program enters the kernel, and says by what: a call, or a BREAK, that
     /// can be fetched. Then Random is lowered by one, and nothing else changes; otherwise nothing does.
-    #[tactic(auto, using(crate::proofs::Entering::entered))]
     #[inline(always)]
     pub fn attempt_entry(&mut self, frames: &Frames) -> Option<Entry>
-        ensures at { result ≡ entry_at self.old frames.now }
+        ensures at { result ≡ entry_in (user_step self.old frames.now) }
         ensures came { IfSome result (λ entry. user_step self.old frames.now ≡ came_by entry) }
         ensures machine { self.new ≡ if is_some result then record self.old { cp0 = after_attempts 1 self.old.cp0 } else self.old }
     {
@@ -181,8 +182,10 @@ impl Machine {
         ensures most { result.made ≤ most }
         ensures stop { result.made < most → has_retired (user_step self.new frames.new) ≡ false }
         ensures wanted { result.wanted ≡ wanted_behind result.made most self.new.cp0 self.new.tlb (record { cpu = self.new.cpu; frames = frames.new }) }
-        ensures entry { result.entry ≡ entry_behind result.made most self.new.cp0 self.new.tlb (record { cpu = self.new.cpu; frames = frames.new }) }
+        ensures missed { (exc : Exc) → result.made < most → end_of self.new.cp0 self.new.tlb (outcome_of (user_step self.new frames.new)) ≡ ends.Refill exc → result.wanted ≡ Some exc.bad }
+        ensures entry { result.entry ≡ next_entry result.made most (user_step self.new frames.new) }
         ensures came { IfSome result.entry (λ entry. user_step self.new frames.new ≡ came_by entry) }
+        ensures apart { IsSome result.wanted → result.entry ≡ None }
         ensures size { length frames.new ≡ length frames.old }
         ensures rows { self.new.tlb ≡ self.old.tlb }
         ensures cp0 { self.new.cp0 ≡ after_attempts result.made self.old.cp0 }
