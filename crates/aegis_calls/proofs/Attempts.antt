@@ -1,6 +1,7 @@
 -- An attempt of the runner's step over the rows of the TLB, by what the machine made of it.
 use Rattle.std.proofs.Common.{◌≡◌, ◌<◌, ℕ, ◌/◌, List, Bool, true, false, Option, Some, None, refl, sym, ◌∙◌, ap, subst, arith, rules, length}
 use Rattle.std.specs.Prelude.{if◌then◌else◌, is_some, IfSome}
+use Rattle.std.specs.Option.{option_map}
 use Rattle.r3k_tlb.specs.Row.{page_numbers}
 use Rattle.aegis_limits.specs.Limits.{environment_numbers, page_size, vpn_end}
 use Rattle.mips_exec.specs.declared.exception.Exc.{Exc}
@@ -30,10 +31,10 @@ use Rattle.slot_vector.specs.Slices.{left_of}
 use Rattle.tlb_model.specs.Lookups.{first_missing}
 use Rattle.board_model.specs.Stretch.{stretched}
 use Rattle.aegis_calls.proofs.Stretched.{stretch_sound}
-use Rattle.aegis_calls.specs.Cached.{FindRows, IsStuck}
+use Rattle.aegis_calls.specs.Cached.{FindRows, IsOfMiss, IsStuck}
 use Rattle.aegis_calls.specs.Entering.{StandsAt}
 use Rattle.mips_step.specs.WordStep.{has_retired}
-use Rattle.tlb_laws.specs.Laws.{FindsAreFlat, RunIsFlat, RunsFor, end_without_refill}
+use Rattle.tlb_laws.specs.Laws.{FindsAreFlat, MissesRefill, RunIsFlat, RunsFor, end_without_refill}
 use Rattle.tlb_laws.proofs.Running.{runs_are_flat}
 use Rattle.tlb_laws.proofs.Ending.{Missed, flat_end, missed_end}
 use Rattle.board_model.specs.Shown.{Shown, mappings_of}
@@ -246,6 +247,20 @@ pub entry_end : (cp0 : Cp0) (rows : List Row) (entry : Entry) → end_of cp0 row
 entry_end cp0 rows Call = refl
 entry_end cp0 rows Break = refl
 
+-- and no miss
+entry_no_miss : (entry : Entry) → is_missed (came_by entry) ≡ true → ⊥
+entry_no_miss Call is = search (rules, is)
+entry_no_miss Break is = search (rules, is)
+
+-- a program that stands so enters so over the rows
+stands_so : (v : Shown) (e : ℕ) (cp0 : Cp0) → FindsAreFlat → MissesRefill → (entry : Entry) → StandsAt v e entry → RunsFor (lookup_of v) e cp0 v.tlb.rows v.frames
+    → (o : Option ℕ) → first_missing v.tlb.rows e (vpns_of v e) ≡ o → row_step cp0 v.tlb.rows v.frames v.cpu ≡ came_by entry
+stands_so v e cp0 finds misses entry stands runs None found = (finds (lookup_of v) e cp0 v.tlb.rows v.frames v.cpu runs found).step ∙ stands.step
+stands_so v e cp0 finds misses entry stands runs (Some vpn) missing =
+    let r = misses (lookup_of v) e cp0 v.tlb.rows v.frames v.cpu vpn runs missing in
+    let nowhere = sym (ap (mapping_of_miss (lookup_of v e)) missing) ∙ stands.found in
+    absurd (entry_no_miss entry (ap is_missed (sym stands.step ∙ r.flat nowhere) ∙ r.missed))
+
 -- what is so of each thing that there may be
 pub if_some : (o : Option Entry) {P : Entry → Type 0} → ((entry : Entry) → o ≡ Some entry → P entry) → IfSome o P
 if_some None each = search rules
@@ -295,3 +310,21 @@ module _ (b : Shown) (e : ℕ) (first m : Machine) (steps : ℕ) (cpu : first.cp
       let f = flat_end (lookup_of v) e cp0 b.tlb.rows v.frames v.cpu (runs_for v e cp0 (stretch_sound b e steps sound left) small pid user)
       (λ exc is. not_refill (outcome_of (came_by entry)) exc (sym end ∙ is)) in
       record { found = ap (mapping_of_miss (lookup_of v e)) f.found; step = sym f.flat.step ∙ came }
+
+  -- where it says that the program doesn't, it doesn't stand there
+  pub comes_behind : FindsAreFlat → MissesRefill → (cp0 : Cp0) → current_pid cp0 ≡ e → is_user cp0 ≡ true → steps < left_of b.slots.runner
+      → (entry : Entry) → StandsAt (stretched b e steps) e entry → row_step cp0 b.tlb.rows (stretched b e steps).frames (stretched b e steps).cpu ≡ came_by entry
+  comes_behind finds misses cp0 pid user left entry stands =
+      let v = stretched b e steps in
+      stands_so v e cp0 finds misses entry stands (runs_for v e cp0 (stretch_sound b e steps sound left) small pid user) (first_missing v.tlb.rows e (vpns_of v e)) refl
+
+  -- where the next step misses, the address that the machine wants is of the page
+  pub wants_behind : MissesRefill → (cp0 : Cp0) → current_pid cp0 ≡ e → is_user cp0 ≡ true → steps < left_of b.slots.runner → (wanted : Option ℕ)
+      → ((exc : Exc) → end_of cp0 b.tlb.rows (outcome_of (row_step cp0 b.tlb.rows (stretched b e steps).frames (stretched b e steps).cpu)) ≡ ends.Refill exc → wanted ≡ Some exc.bad)
+      → IsOfMiss (stretched b e steps) e wanted
+  wants_behind misses cp0 pid user left wanted named = λ vpn missing.
+      let v = stretched b e steps in
+      let its = runs_for v e cp0 (stretch_sound b e steps sound left) small pid user in
+      let r = misses (lookup_of v) e cp0 b.tlb.rows v.frames v.cpu vpn its missing in
+      let end = ap (λ st. end_of cp0 b.tlb.rows (outcome_of st)) r.step ∙ r.end in
+      ap (option_map (λ (x : ℕ). x / page_size)) (named r.exc end) ∙ ap Some r.at

@@ -6,3 +6,4 @@ mod Stretched
 mod Plain
 mod MoreTicks
 mod Refilled
+mod Living

@@ -1,24 +1,26 @@
 -- A row that is refilled for plain ticks, and one that was refilled in vain and is put back.
-use Rattle.std.proofs.Common.{◌≡◌, ◌≢◌, ◌<◌, ℕ, zero, suc, ◌+◌, ◌-◌, List, [], ◌∷◌, true, false, Option, Some, None, refl, sym, ◌∙◌, ap, subst, arith, rules, add-zero}
+use Rattle.std.proofs.Common.{◌≡◌, ◌≢◌, ◌<◌, ℕ, zero, suc, ◌+◌, ◌-◌, ◌*◌, ◌/◌, ◌^◌, List, [], ◌∷◌, true, false, Option, Some, None, refl, sym, ◌∙◌, ap, subst, arith, rules, add-zero}
 use Rattle.std.specs.Prelude.{is_some, slice_index_or, slice_set}
 use Rattle.std.specs.Option.{option_map}
 use Rattle.std.proofs.lemmas.List.{set-set}
-use Rattle.aegis_limits.specs.Limits.{environment_numbers, vpn_end}
+use Rattle.aegis_limits.specs.Limits.{environment_numbers, page_size, vpn_end}
 use Rattle.mips_exec.specs.Step.{Step, outcome_of}
 use Rattle.mips_exec.specs.declared.exception.Outcome.TheVariants as outcome
 use Rattle.mips_step.specs.WordStep.{has_retired}
 use Rattle.env_frames.specs.declared.mapping.Mapping.{Mapping}
+use Rattle.r3k_cp0.specs.declared.registers.Cp0.{Cp0}
 use Rattle.r3k_cp0.specs.Random.{fallen, fallen_times}
+use Rattle.r3k_cp0.specs.Registers.{blank_cp0, current_pid}
 use Rattle.tlb_model.specs.Cache.{row_for, with_fills, with_random_fallen, with_refill}
 use Rattle.tlb_model.specs.Lookups.{first_missing, mapping_of_miss}
 use Rattle.tlb_course.specs.Course.{cache_after_ticks}
-use Rattle.tlb_laws.specs.Laws.{RightRefill}
+use Rattle.tlb_laws.specs.Laws.{MissesRefill, Refills, RightRefill}
 use Rattle.world_model.specs.declared.slot.Runner.{Runner}
 use Rattle.world_model.specs.Event.{Schedule}
 use Rattle.board_model.specs.Doing.{lookup_of, step_seen}
 use Rattle.board_model.specs.Refilling.{fills_after_refill, is_kept_by, refill_of, rows_after_miss, vpns_of, with_refilled}
 use Rattle.board_model.specs.Shown.{Shown, mappings_of}
-use Rattle.board_model.proofs.Refills.{lookup_number, refilled_rows}
+use Rattle.board_model.proofs.Refills.{lookup_number, refilled_rows, runs_for}
 use Rattle.board_model.proofs.Staying.{sound_tlb}
 use Rattle.board_acts.specs.Parts.{space_in}
 use Rattle.guest_memory.specs.Space.{SpaceValue, lookup}
@@ -28,7 +30,7 @@ use Rattle.tlb_model.specs.declared.fills.Fills.{Fills}
 use Rattle.board_model.specs.Showing.{world_of}
 use Rattle.board_model.specs.Sound.{HasRunner, IsSoundBoard, RowsAgree}
 use Rattle.board_model.specs.Stretch.{ArePlain, IsQuiet, StretchIsSteady, StretchShowsModel, stretched}
-use Rattle.aegis_calls.specs.Cached.{FindRows, IsStuck}
+use Rattle.aegis_calls.specs.Cached.{FindRows, EndsStretch, IsOfMiss, IsStuck}
 use Rattle.aegis_calls.proofs.Plain.{refilled_falls}
 
 -- Random falls behind the ticks as before them
@@ -84,14 +86,19 @@ put_back xs i y d = set-set xs i y (slice_index_or xs i d) ∙ put_back_by xs i 
 -- ---- the row that is refilled
 
 -- the mapping that it is for
-pub record IsFor (b : Shown) (e : ℕ) (now : Shown) : Type 0 where
+pub record IsFor (b : Shown) (e vpn : ℕ) (now : Shown) : Type 0 where
   pub mapping : Mapping
+  pub there : lookup_of b e vpn ≡ Some mapping
   pub leads : lookup_of b e mapping.vpn ≡ Some mapping
   pub board : now ≡ with_row b e mapping
 
 some_of : (o : Option Mapping) → is_some o ≡ true → (x : Mapping) × (o ≡ Some x)
 some_of None h = search rules
 some_of (Some x) h = (x, refl)
+
+none_of : (o : Option Mapping) → is_some o ≡ false → o ≡ None
+none_of None h = refl
+none_of (Some x) h = search rules
 
 -- what is refilled of a VPN that leads somewhere, by the environment's space
 module _ (b : Shown) (e vpn random : ℕ) (space : SpaceValue) (rows : List Row) (fills : List Fills) (is : space ≡ space_in b.binds b.roster.list e)
@@ -108,7 +115,7 @@ module _ (b : Shown) (e vpn random : ℕ) (space : SpaceValue) (rows : List Row)
       let agree = refilled_rows b e random vpn (lookup_of b e vpn) sound small below refl in
       sound_tlb (record { rows = rows; random = b.tlb.random; fills = fills }) (subst (RowsAgree b.frames b.roster.list b.binds) (sym rows_now) agree) sound
 
-  pub is_for : random ≡ b.tlb.random → is_some (lookup space vpn) ≡ true → IsFor b e (record b { tlb = record { rows = rows; random = b.tlb.random; fills = fills } })
+  pub is_for : random ≡ b.tlb.random → is_some (lookup space vpn) ≡ true → IsFor b e vpn (record b { tlb = record { rows = rows; random = b.tlb.random; fills = fills } })
   is_for named there =
       let x = some_of (lookup_of b e vpn) (sym (ap (λ (x : SpaceValue). is_some (lookup x vpn)) is) ∙ there) in
       let at : vpn ≡ x.0.vpn = sym (lookup_number b e vpn x.0 x.1) in
@@ -119,6 +126,96 @@ module _ (b : Shown) (e vpn random : ℕ) (space : SpaceValue) (rows : List Row)
       ∙ ap (λ v. with_fills (with_refill (is_kept_by (mappings_of b.roster.list e) v)) e b.tlb.fills) at in
       record {
         mapping = x.0;
+        there = x.1;
         leads = ap (lookup_of b e) (sym at) ∙ x.1;
         board = λ i. record b { tlb = record { rows = rows_with i; random = b.tlb.random; fills = fills_with i } };
       }
+
+  -- nothing is, of one that leads nowhere
+  pub not_refilled : is_some (lookup space vpn) ≡ false
+      → (lookup_of b e vpn ≡ None) × (record b { tlb = record { rows = rows; random = b.tlb.random; fills = fills } } ≡ b)
+  not_refilled nowhere =
+      let none = none_of (lookup_of b e vpn) (sym (ap (λ (x : SpaceValue). is_some (lookup x vpn)) is) ∙ nowhere) in
+      let rows_kept = rows_now ∙ ap (λ o. rows_after_miss random e o b.tlb.rows) none in
+      let fills_kept = fills_now ∙ ap (λ o. fills_after_refill (is_kept_by (mappings_of b.roster.list e) vpn) e o b.tlb.fills) none in
+      (none, (λ i. record b { tlb = record b.tlb { rows = rows_kept i; fills = fills_kept i } }))
+
+-- ---- a step that ends a stretch
+
+-- coprocessor 0 in user mode, for an environment
+abbrev for_user : ℕ → Cp0
+for_user e = record blank_cp0 { entry_hi = e * 2 ^ 6; status = 2 }
+
+has_pid : (e : ℕ) → e < environment_numbers → current_pid (for_user e) ≡ e
+has_pid e small = omega (arith, small)
+
+none_or_some : (o : Option ℕ) → (P : Type 0) → (o ≡ None → P) → ((vpn : ℕ) → o ≡ Some vpn → P) → P
+none_or_some None P none some = none refl
+none_or_some (Some vpn) P none some = some vpn refl
+
+-- a step of a sound board that misses, and whose VPN leads nowhere, doesn't retire
+module _ (misses : MissesRefill) (b : Shown) (e : ℕ) (sound : IsSoundBoard b) (small : e < environment_numbers) (vpn : ℕ) (missing : first_missing b.tlb.rows e (vpns_of b e) ≡ Some vpn) where
+  refills : Refills (lookup_of b e) (for_user e) b.tlb.rows b.frames b.cpu vpn
+  refills = misses (lookup_of b) e (for_user e) b.tlb.rows b.frames b.cpu vpn (runs_for b e (for_user e) sound small (has_pid e small) refl) missing
+
+  pub missed_below : vpn < vpn_end
+  missed_below = subst (λ n. n < vpn_end) refills.at (omega (arith, refills.user))
+
+  pub missed_traps : lookup_of b e vpn ≡ None → has_retired (step_seen b e) ≡ false
+  missed_traps none = ap has_retired (refills.flat none)
+
+-- where the page of the address leads nowhere
+pub ends_nowhere : MissesRefill → (b : Shown) (e address : ℕ) → IsSoundBoard b → e < environment_numbers → IsStuck b e → IsOfMiss b e (Some address)
+    → (address / page_size < vpn_end → lookup_of b e (address / page_size) ≡ None) → EndsStretch b e
+ends_nowhere misses b e address sound small stuck its nowhere =
+    none_or_some (first_missing b.tlb.rows e (vpns_of b e)) (EndsStretch b e)
+    (λ found. record { settled = λ none. stuck found; refilled = λ m some. absurd (none_is_some (sym (ap (mapping_of_miss (lookup_of b e)) found) ∙ some)) })
+    (λ vpn missing.
+    let at : address / page_size ≡ vpn = some_same (its vpn missing) in
+    let none : lookup_of b e vpn ≡ None = ap (lookup_of b e) (sym at) ∙ nowhere (subst (λ n. n < vpn_end) (sym at) (missed_below misses b e sound small vpn missing)) in
+    record {
+      settled = λ no_refill. missed_traps misses b e sound small vpn missing none;
+      refilled = λ m some. absurd (none_is_some (sym none ∙ sym (ap (mapping_of_miss (lookup_of b e)) missing) ∙ some));
+    })
+  where
+    none_is_some : {m : Mapping} → None ≡ Some m → ⊥
+    none_is_some is = cc
+
+    some_same : {x y : ℕ} → Some x ≡ Some y → x ≡ y
+    some_same is = cc
+
+-- where nothing is wanted
+pub ends_unwanted : (b : Shown) (e : ℕ) → IsStuck b e → IsOfMiss b e None → EndsStretch b e
+ends_unwanted b e stuck its =
+    none_or_some (first_missing b.tlb.rows e (vpns_of b e)) (EndsStretch b e)
+    (λ found. record { settled = λ none. stuck found; refilled = λ m some. absurd (none_is_some (sym (ap (mapping_of_miss (lookup_of b e)) found) ∙ some)) })
+    (λ vpn missing. absurd (none_is_number (its vpn missing)))
+  where
+    none_is_some : {m : Mapping} → None ≡ Some m → ⊥
+    none_is_some is = cc
+
+    none_is_number : {x : ℕ} → None ≡ Some x → ⊥
+    none_is_number is = cc
+
+-- where its row was refilled in vain
+pub ends_in_vain : (b : Shown) (e address : ℕ) (m : Mapping) → IsStuck b e → IsOfMiss b e (Some address) → lookup_of b e (address / page_size) ≡ Some m
+    → IsStuck (with_row b e m) e → EndsStretch b e
+ends_in_vain b e address m stuck its leads vain =
+    none_or_some (first_missing b.tlb.rows e (vpns_of b e)) (EndsStretch b e)
+    (λ found. record { settled = λ none. stuck found; refilled = λ x some. absurd (none_is_some (sym (ap (mapping_of_miss (lookup_of b e)) found) ∙ some)) })
+    (λ vpn missing.
+    let at : address / page_size ≡ vpn = some_same (its vpn missing) in
+    let next : refill_of b e ≡ Some m = ap (mapping_of_miss (lookup_of b e)) missing ∙ ap (lookup_of b e) (sym at) ∙ leads in
+    record {
+      settled = λ none. absurd (none_is_some (sym none ∙ next));
+      refilled = λ x some. subst (λ (y : Mapping). IsStuck (with_refilled b e y) e) (mapping_same (sym next ∙ some)) vain;
+    })
+  where
+    none_is_some : {x : Mapping} → None ≡ Some x → ⊥
+    none_is_some is = cc
+
+    some_same : {x y : ℕ} → Some x ≡ Some y → x ≡ y
+    some_same is = cc
+
+    mapping_same : {x y : Mapping} → Some x ≡ Some y → x ≡ y
+    mapping_same is = cc

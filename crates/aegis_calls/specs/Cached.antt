@@ -1,10 +1,13 @@
 -- What the TLB is behind a call, and behind ticks in which nothing happens from outside.
-use Rattle.std.specs.Prelude.{◌≡◌, ◌<◌, ℕ, ◌+◌, false, Some, None}
+use Rattle.std.specs.Prelude.{◌≡◌, ◌<◌, ℕ, ◌+◌, ◌/◌, false, Option, Some, None}
+use Rattle.std.specs.Option.{option_map}
+use Rattle.aegis_limits.specs.Limits.{page_size}
+use Rattle.env_frames.specs.declared.mapping.Mapping.{Mapping}
 use Rattle.mips_step.specs.WordStep.{has_retired}
 use Rattle.world_model.specs.Book.{running}
 use Rattle.world_model.specs.Event.{Schedule}
 use Rattle.board_model.specs.Doing.{step_seen}
-use Rattle.board_model.specs.Refilling.{vpns_of}
+use Rattle.board_model.specs.Refilling.{refill_of, vpns_of, with_refilled}
 use Rattle.board_model.specs.Shown.{Shown}
 use Rattle.board_model.specs.Showing.{world_of}
 use Rattle.board_model.specs.Stretch.{IsQuiet, plain_ticks, stretched}
@@ -35,8 +38,19 @@ stretched_with b e ticks tlb = record (stretched b e ticks) { tlb = tlb }
 abbrev pub IsStuck : Shown → ℕ → Type 0
 IsStuck b e = first_missing b.tlb.rows e (vpns_of b e) ≡ None → has_retired (step_seen b e) ≡ false
 
--- Where fewer ticks went by than plain ones may, of at most so many, the runner's next step is stuck.
+-- Its next step ends a stretch: it doesn't retire, or it isn't made even where its first miss is refilled.
+pub record EndsStretch (b : Shown) (e : ℕ) : Type 0 where
+  pub settled : refill_of b e ≡ None → has_retired (step_seen b e) ≡ false
+  pub refilled : (m : Mapping) → refill_of b e ≡ Some m → IsStuck (with_refilled b e m) e
+
+-- where its next step has a miss, this address is of its page
+abbrev pub IsOfMiss : Shown → ℕ → Option ℕ → Type 0
+IsOfMiss b e address =
+    (vpn : ℕ) → first_missing b.tlb.rows e (vpns_of b e) ≡ Some vpn
+    → option_map (λ (x : ℕ). x / page_size) address ≡ Some vpn
+
+-- Where fewer ticks went by than plain ones may, of at most so many, the runner's next step ends the stretch.
 abbrev pub GoesAsFar : Shown → Shown → ℕ → ℕ → Type 0
 GoesAsFar before now most ticks =
     (e : ℕ) → running before.slots.runner ≡ Some e
-    → ticks < plain_ticks before.slots before.revocations before.time most → IsStuck now e
+    → ticks < plain_ticks before.slots before.revocations before.time most → EndsStretch now e

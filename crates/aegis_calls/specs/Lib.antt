@@ -1,4 +1,5 @@
 pub mod Cached
 pub mod Entering
+pub mod Living
 pub mod QuietTicks
 pub mod Rows

@@ -42,12 +42,21 @@ impl Model for Board {
 }
 
 impl Board {
+    ghost use Rattle.board_model.specs.Showing.{world_of};
     ghost use Rattle.board_model.specs.Sound.{IsSoundBoard};
+    ghost use Rattle.aegis_calls.specs.Living.{AreOfLiving};
 
     /// Law: a board is sound. What reads no part of it knows that by this alone.
     pub fn law_sound(&self)
         ensures { IsSoundBoard self.now }
     {
         let _ = &self.time;
+    }
+
+    /// Law: no row of the TLB outlives its mapping. Each is emptied, or holds one that a living environment has in the world.
+    pub fn law_no_row_outlives(&self)
+        ensures { AreOfLiving (world_of self.now) self.now.tlb.rows }
+    {
+        self.law_sound();
     }
 }

@@ -5,8 +5,8 @@ ghost use Rattle.revocation_book.specs.RevocationBook.{next_deadline};
 ghost use Rattle.slot_vector.specs.Slices.{left_of};
 ghost use Rattle.world_model.specs.Book.{is_idle_book, running};
 ghost use Rattle.board_model.specs.Stretch.{ArePlain, plain_ticks, stretched};
-ghost use Rattle.aegis_calls.specs.Cached.{AreCachedTicks, FindRows, GoesAsFar, IsStuck, stretched_with};
-ghost use Rattle.aegis_calls.specs.Entering.{IsEntering, StandsAt};
+ghost use Rattle.aegis_calls.specs.Cached.{AreCachedTicks, FindRows, GoesAsFar, EndsStretch, IsOfMiss, IsStuck, stretched_with};
+ghost use Rattle.aegis_calls.specs.Entering.{IsEntering, Tells, TellsOfNext};
 ghost use Rattle.aegis_calls.specs.QuietTicks.{AreQuietTicks, AreSteadyTicks};
 
 use crate::board::Board;
@@ -16,7 +16,7 @@ use board_model::law_stretch;
 use guest_memory::PAGE_BYTES;
 use r3k_machine::{Entry, Steps};
 use tlb_course::law_further;
-use tlb_laws::{law_finds, law_right_refill};
+use tlb_laws::{law_finds, law_misses, law_right_refill};
 use world_model::WorldView;
 
 /// No step was made, and none is to be tried again.
@@ -50,10 +50,14 @@ impl Board {
         ensures found { FindRows self.old env result.made }
         ensures most { result.made ≤ most }
         ensures wanted { IsSome result.wanted → result.made < most }
-        ensures entry { IfSome result.entry (λ entry. (result.made < most) × StandsAt self.new env entry) }
+        ensures entry { IsSome result.entry → result.made < most }
+        ensures told { result.made < most → Tells self.new env result.entry }
+        ensures apart { IsSome result.wanted → result.entry ≡ None }
+        ensures missed { result.made < most → IsOfMiss self.new env result.wanted }
         ensures stop { result.made < most → IsStuck self.new env }
     {
         law_finds();
+        law_misses();
         self.machine.set_user(env);
         let steps = self.machine.run(&mut self.frames, most);
         self.slots.pass(steps.made);
@@ -69,17 +73,25 @@ impl Board {
         requires time { self.old.time + most ≤ most_ticks }
         requires left { most < left_of self.old.slots.runner }
         requires early { most ≤ next_deadline self.old.revocations - self.old.time }
+        requires more { 0 < most }
         requires stuck { IsStuck self.old env }
+        requires missed { IsOfMiss self.old env (Some address) }
+        requires untold { Tells self.old env None }
         ensures after { self.new ≡ stretched_with self.old env result.made self.new.tlb }
         ensures plain { ArePlain self.old env result.made }
         ensures tlb { AreCachedTicks self.old self.new result.made }
         ensures most { result.made ≤ most }
         ensures wanted { IsSome result.wanted → result.made < most }
-        ensures entry { IfSome result.entry (λ entry. (result.made < most) × StandsAt self.new env entry) }
-        ensures stop { result.made < most → IsStuck self.new env }
+        ensures entry { IsSome result.entry → result.made < most }
+        ensures told { result.made < most → Tells self.new env result.entry }
+        ensures apart { IsSome result.wanted → result.entry ≡ None }
+        ensures missed { 0 < result.made → result.made < most → IsOfMiss self.new env result.wanted }
+        ensures stop { 0 < result.made → result.made < most → IsStuck self.new env }
+        ensures ends { result.made ≡ 0 → EndsStretch self.new env }
     {
         self.law_sound();
         law_stretch();
+        law_misses();
         law_right_refill();
         let vpn = address / PAGE_BYTES;
         if vpn >= VPN_END {
@@ -111,9 +123,9 @@ impl Board {
         ensures plain { ArePlain self.old env result.made }
         ensures tlb { AreCachedTicks self.old self.new result.made }
         ensures most { result.made ≤ most }
-        ensures stop { result.made < plain_ticks self.old.slots self.old.revocations self.old.time most → IsStuck self.new env }
+        ensures stop { result.made < plain_ticks self.old.slots self.old.revocations self.old.time most → EndsStretch self.new env }
         ensures early { IsSome result.entry → result.made < plain_ticks self.old.slots self.old.revocations self.old.time most }
-        ensures entry { IfSome result.entry (StandsAt self.new env) }
+        ensures told { result.made < plain_ticks self.old.slots self.old.revocations self.old.time most → Tells self.new env result.entry }
     {
         self.law_sound();
         law_stretch();
@@ -149,6 +161,7 @@ impl Board {
         ensures stop { GoesAsFar self.old self.new most result.made }
         ensures early { IsSome result.entry → result.made < most }
         ensures entry { IfSome result.entry (IsEntering self.new) }
+        ensures told { TellsOfNext self.old self.new most result.made result.entry }
         ensures time { self.new.time ≡ self.old.time + result.made }
         ensures numbers { self.new.claims.next ≡ self.old.claims.next }
         ensures whole { self.new.roster.spare ≡ self.old.roster.spare }

@@ -5,7 +5,7 @@ ghost use Rattle.world_model.specs.Event.{schedule_of};
 ghost use Rattle.board_model.specs.Stretch.{IsQuiet};
 ghost use Rattle.aegis_tick.specs.Course.{AreLater, next_time_of, occurrences};
 
-use crate::running::{count_at, next_time};
+use crate::running::{count_at, next_time, ticks_before};
 use external_event::Event;
 
 /// The events of a time, and those of later times: of events in their order, none of which is earlier.
@@ -25,5 +25,5 @@ pub fn quiet_ticks(events: &[Event], time: u32, most: u32) -> u32
     ensures quiet { IsQuiet (schedule_of events.now) time (time + result) }
     ensures order { (ticks : ℕ) → ticks ≤ result → are_in_order (time + ticks) events.now ≡ true }
 {
-    most.min(next_time(events, 0) - time)
+    ticks_before(next_time(events, 0), time, most)
 }

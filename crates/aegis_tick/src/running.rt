@@ -1,5 +1,5 @@
 //! Ticks and whole runs of a board.
-ghost use Rattle.std.specs.Prelude.{◌≡◌, ◌≤◌, ◌<◌, ◌+◌, ◌*◌, ◌==◌, drop, false, length, true, IfOk, IfSome, IsOk, OnOk, OnErr};
+ghost use Rattle.std.specs.Prelude.{◌≡◌, ◌≤◌, ◌<◌, ◌+◌, ◌-◌, ◌*◌, ◌==◌, drop, min, false, length, true, IfOk, IfSome, IsOk, OnOk, OnErr};
 ghost use Rattle.std.specs.List.{prefix_len, take_while};
 ghost use Rattle.aegis_limits.specs.Limits.{most_ticks};
 ghost use Rattle.board_model.specs.Shown.{with_spare};
@@ -96,6 +96,15 @@ pub(crate) fn next_time(events: &[Event], first: usize) -> u32
         Some(event) => event.time,
         None => u32::MAX,
     }
+}
+
+/// How many ticks from a time on come before the next event, which is of that time or a later one: at most so many.
+#[inline(always)]
+pub(crate) fn ticks_before(soon: u32, time: u32, most: u32) -> u32
+    requires { time ≤ soon }
+    ensures { result ≡ min most (soon - time) }
+{
+    most.min(soon - time)
 }
 
 /// Of the events behind the first ones, so many, those of this time, before the first of another.
@@ -236,7 +245,8 @@ fn run_ticks(board: &mut Board, events: &[Event], ticks: u32) -> Result<(), OutO
         let now = take_due(events, &mut next, &mut soon, done);
         tick_next(board, now, entry)?;
         done += 1;
-        let stretch = board.stretch_to_entry(ticks.min(soon) - done);
+        let most = ticks_before(soon, done, ticks - done);
+        let stretch = board.stretch_to_entry(most);
         done += stretch.made;
         entry = stretch.entry;
     }

@@ -5,5 +5,5 @@ use Rattle.aegis_tick.proofs.due.quiet_ticks.Goals as goal
 
 pub returns-clause-quiet : goal.returns-clause-quiet
 returns-clause-quiet c = record {
-  nothing = λ t from until. none_before c.args.time t c.args.events.now c.requires (omega (arith, c.next_time.ensures, c.min.ensures));
+  nothing = λ t from until. none_before c.args.time t c.args.events.now c.requires (omega (arith, c.next_time.ensures, c.ticks_before.ensures));
 }

@@ -64,8 +64,8 @@ pub returns-in_err-tick_next-clause-balance : goal.returns-in_err-tick_next-clau
 returns-in_err-tick_next-clause-balance c =
     cut_accounted c.law_accounts.ensures (schedule_of c.args.events.now) (world_of c.args.board.now) c.args.ticks (world_of c.tick_next.new.board) (cut_here c)
 
-pub overflow_sub-min : goal.overflow_sub-min
-overflow_sub-min c =
+pub ticks_before-most-requires : goal.ticks_before-most-requires
+ticks_before-most-requires c =
     let es = c.args.events.now in
     let i = c.loop-done.next in
     let t = c.loop-done.done in
@@ -108,6 +108,7 @@ loop-done-preserved c =
     ∙ ap (cache_ticked (once_happened schedule (world_after_ticks schedule w t))) now.tlb
     ∙ sym (cache_goes_on schedule w t start busy) in
     let time = c.in_ok-tick_next.ensures.ticked.time ∙ ap (λ (m : ℕ). m + 1) now.time in
+    let equal = c.ticks_before-most.ensures in
     let most = c.stretch_to_entry-stretch.ensures.most in
     let limit = c.requires.limit in
     let later = next_later (t + 1) rest ordered (omega arith) in

@@ -1,6 +1,7 @@
 -- Plain ticks over the rows of the TLB.
-use Rattle.std.proofs.Common.{rules, ◌≡◌, ◌<◌, ◌-◌, ℕ, ap, ◌∙◌, refl, sym, subst, arith, Option, None, Some}
+use Rattle.std.proofs.Common.{rules, ◌≡◌, ◌<◌, ◌-◌, ℕ, ap, ◌∙◌, refl, sym, subst, true, arith, Option, None, Some}
 use Rattle.std.specs.Prelude.{◌≤◌, nat_lt, if◌then◌else◌, IfSome, IsSome}
+use Rattle.mips_exec.specs.Step.{outcome_of}
 use Rattle.mips_step.specs.WordStep.{has_retired}
 use Rattle.r3k_cp0.specs.Registers.{current_pid, is_user}
 use Rattle.r3k_machine.specs.Memory.{row_step}
@@ -9,8 +10,9 @@ use Rattle.r3k_cp0.specs.declared.registers.Cp0.{Cp0}
 use Rattle.r3k_cp0.specs.Random.{fallen_times}
 use Rattle.r3k_machine.specs.declared.entry.Entry.{Entry}
 use Rattle.r3k_machine.specs.declared.machine.Machine.{Machine}
-use Rattle.r3k_machine.specs.Entry.{came_by}
-use Rattle.r3k_machine.specs.Machine.{user_step}
+use Rattle.r3k_machine.specs.declared.entry.Entry.TheVariants.{Break, Call}
+use Rattle.r3k_machine.specs.Entry.{came_by, entry_in}
+use Rattle.r3k_machine.specs.Machine.{end_of, user_step}
 use Rattle.r3k_machine.specs.Steps.{Running, after_row_steps}
 use Rattle.slot_vector.specs.Slices.{left_of}
 use Rattle.tlb_laws.specs.Laws.{RunIsFlat}
@@ -18,9 +20,9 @@ use Rattle.board_model.specs.Shown.{Shown}
 use Rattle.board_model.specs.Doing.{lookup_of}
 use Rattle.board_model.specs.Stretch.{ArePlain, stretched}
 use Rattle.aegis_limits.specs.Limits.{environment_numbers}
-use Rattle.aegis_calls.specs.Cached.{FindRows, IsStuck}
-use Rattle.aegis_calls.specs.Entering.{StandsAt}
-use Rattle.aegis_calls.proofs.Attempts.{if_some, run_found, run_made, stands_behind, stuck_behind}
+use Rattle.aegis_calls.specs.Cached.{FindRows, IsOfMiss, IsStuck}
+use Rattle.aegis_calls.specs.Entering.{Tells}
+use Rattle.aegis_calls.proofs.Attempts.{comes_behind, run_found, run_made, stands_behind, stuck_behind, wants_behind}
 use Rattle.aegis_calls.proofs.Runner.{runner_live, seen}
 use Rattle.aegis_calls.proofs.board.Board.run_found.Goals as goal
 
@@ -107,23 +109,62 @@ some_more made most o some = search (rules, arith)
 pub returns-clause-wanted : goal.returns-clause-wanted
 returns-clause-wanted c = λ some. some_more c.run-steps.result.made c.args.most _ (subst IsSome c.run-steps.ensures.wanted some)
 
--- where it stops at a word by which the program enters the kernel, the program stands there
-fewer : (made most : ℕ) (o p : Option Entry) (entry : Entry) → p ≡ (if nat_lt made most then o else None) → p ≡ Some entry → made < most
-fewer made most o p entry is some = search (rules, arith)
+-- ---- what is told of the next step
+
+abbrev behind : (c : goal.After-pass-2) → Shown
+behind c = stretched (seen c.self.view_is) c.args.env c.run-steps.result.made
+
+-- the machine's step there, over the board's rows
+next_step : (c : goal.After-pass-2) → user_step c.run-steps.new.self c.run-steps.new.frames ≡ row_step c.run-steps.new.self.cp0 (seen c.self.view_is).tlb.rows (behind c).frames (behind c).cpu
+next_step c =
+    let made = ran c in
+    let kept : c.run-steps.new.self.tlb ≡ (seen c.self.view_is).tlb.rows = c.run-steps.ensures.rows ∙ ap (λ (m : Machine). m.tlb) c.set_user.ensures.machine in
+    λ i. row_step c.run-steps.new.self.cp0 (kept i) (made.1 i) (made.0 i)
+
+pid_now : (c : goal.After-pass-2) → current_pid c.run-steps.new.self.cp0 ≡ c.args.env
+pid_now c = ap current_pid c.run-steps.ensures.cp0 ∙ c.set_user.ensures.pid
+
+user_now : (c : goal.After-pass-2) → is_user c.run-steps.new.self.cp0 ≡ true
+user_now c = ap is_user c.run-steps.ensures.cp0 ∙ c.set_user.ensures.user
+
+fewer : (made most : ℕ) (o p : Option Entry) → p ≡ (if nat_lt made most then o else None) → IsSome p → made < most
+fewer made most o p is some = search (rules, arith)
 
 pub returns-clause-entry : goal.returns-clause-entry
-returns-clause-entry c = if_some c.run-steps.result.entry (λ entry is.
-    let b = seen c.self.view_is in
-    let k = c.run-steps.result.made in
-    let made = ran c in
-    let kept : c.run-steps.new.self.tlb ≡ b.tlb.rows = c.run-steps.ensures.rows ∙ ap (λ (m : Machine). m.tlb) c.set_user.ensures.machine in
+returns-clause-entry c = λ some. fewer c.run-steps.result.made c.args.most _ c.run-steps.result.entry c.run-steps.ensures.entry some
+
+came_in : (entry : Entry) → entry_in (came_by entry) ≡ Some entry
+came_in Call = refl
+came_in Break = refl
+
+more_is : (made most : ℕ) (o : Option Entry) → made < most → (if nat_lt made most then o else None) ≡ o
+more_is made most o less = search (rules, arith)
+
+none_is_some : (o : Option Entry) (entry : Entry) → o ≡ None → o ≡ Some entry → ⊥
+none_is_some o entry none some = let both : None ≡ Some entry = sym none ∙ some in cc
+
+tells : (c : goal.After-pass-2) → c.run-steps.result.made < c.args.most → (o : Option Entry) → c.run-steps.result.entry ≡ o → Tells (behind c) c.args.env o
+tells c less (Some entry) is =
     let came = subst (λ (o : Option Entry). IfSome o (λ entry. user_step c.run-steps.new.self c.run-steps.new.frames ≡ came_by entry)) is c.run-steps.ensures.came in
-    let comes = sym (λ i. row_step c.run-steps.new.self.cp0 (kept i) (made.1 i) (made.0 i)) ∙ came in
-    let pid = ap current_pid c.run-steps.ensures.cp0 ∙ c.set_user.ensures.pid in
-    let user = ap is_user c.run-steps.ensures.cp0 ∙ c.set_user.ensures.user in
-    let stands = stands_behind b c.args.env c.self.inside.machine c.set_user.new.self k refl refl c.self.invariant (small c)
+    stands_behind (seen c.self.view_is) c.args.env c.self.inside.machine c.set_user.new.self c.run-steps.result.made refl refl c.self.invariant (small c)
     c.set_user.ensures.machine c.set_user.ensures.user c.set_user.ensures.pid c.run-steps.ensures.retire
-    c.run-steps.new.self.cp0 pid user (left c) entry comes in (
-      fewer k c.args.most _ c.run-steps.result.entry entry c.run-steps.ensures.entry is,
-      subst (λ (s : Shown). StandsAt s c.args.env entry) (sym (after c)) stands,
-    ))
+    c.run-steps.new.self.cp0 (pid_now c) (user_now c) (left c) entry (sym (next_step c) ∙ came)
+tells c less None is = λ entry stands.
+    let came = comes_behind (seen c.self.view_is) c.args.env c.self.inside.machine c.set_user.new.self c.run-steps.result.made refl refl c.self.invariant (small c)
+    c.set_user.ensures.machine c.set_user.ensures.user c.set_user.ensures.pid c.run-steps.ensures.retire
+    c.law_finds.ensures c.law_misses.ensures c.run-steps.new.self.cp0 (pid_now c) (user_now c) (left c) entry stands in
+    none_is_some c.run-steps.result.entry entry is
+    (c.run-steps.ensures.entry ∙ more_is c.run-steps.result.made c.args.most _ less ∙ ap entry_in (next_step c ∙ came) ∙ came_in entry)
+
+pub returns-clause-told : goal.returns-clause-told
+returns-clause-told c = λ less.
+    subst (λ (s : Shown). Tells s c.args.env c.run-steps.result.entry) (sym (after c)) (tells c less c.run-steps.result.entry refl)
+
+pub returns-clause-missed : goal.returns-clause-missed
+returns-clause-missed c = λ less.
+    let kept : c.run-steps.new.self.tlb ≡ (seen c.self.view_is).tlb.rows = c.run-steps.ensures.rows ∙ ap (λ (m : Machine). m.tlb) c.set_user.ensures.machine in
+    let its = wants_behind (seen c.self.view_is) c.args.env c.self.inside.machine c.set_user.new.self c.run-steps.result.made refl refl c.self.invariant (small c)
+    c.set_user.ensures.machine c.set_user.ensures.user c.set_user.ensures.pid c.run-steps.ensures.retire
+    c.law_misses.ensures c.run-steps.new.self.cp0 (pid_now c) (user_now c) (left c) c.run-steps.result.wanted
+    (λ exc end. c.run-steps.ensures.missed exc less ((λ i. end_of c.run-steps.new.self.cp0 (kept i) (outcome_of (next_step c i))) ∙ end)) in
+    subst (λ (s : Shown). IsOfMiss s c.args.env c.run-steps.result.wanted) (sym (after c)) its

@@ -1,12 +1,11 @@
 -- Plain ticks, with refills between them.
-use Rattle.std.proofs.Common.{ap, ◌∙◌, ◌<◌, ◌-◌, arith, subst, Option}
-use Rattle.std.specs.Prelude.{IfSome}
-use Rattle.r3k_machine.specs.declared.entry.Entry.{Entry}
+use Rattle.std.proofs.Common.{ap, ◌≡◌, ◌∙◌, ◌<◌, arith, subst, sym}
 use Rattle.board_model.specs.Shown.{Shown}
-use Rattle.aegis_calls.specs.Entering.{StandsAt}
-use Rattle.aegis_calls.proofs.Attempts.{if_some}
+use Rattle.board_model.specs.Stretch.{plain_ticks}
+use Rattle.aegis_calls.specs.Cached.{IsOfMiss}
 use Rattle.aegis_calls.proofs.MoreTicks.{all_cached, all_plain, board_further, none_cached, with_its_tlb}
 use Rattle.aegis_calls.proofs.Plain.{stretch_falls}
+use Rattle.aegis_calls.proofs.Refilled.{ends_unwanted}
 use Rattle.aegis_calls.proofs.board.Board.run_plain.Goals as goal
 
 pub loop-steps-init : goal.loop-steps-init
@@ -24,7 +23,10 @@ loop-steps-init c =
       most = first.most;
       wanted = first.wanted;
       stuck = first.stop;
+      missed = first.missed;
       entry = first.entry;
+      told = first.told;
+      apart = first.apart;
     }
 
 pub loop-steps-preserved : goal.loop-steps-preserved
@@ -43,12 +45,26 @@ loop-steps-preserved c =
       tlb = all_cached b v now e j k before.after c.law_stretch.ensures.world c.law_further.ensures.caches (record { sound = c.law_sound.ensures; runs = c.requires.runs }) before.plain before.tlb more.tlb;
       most = omega (arith, before.most, more.most);
       wanted = λ some. omega (arith, before.most, more.wanted some);
-      stuck = λ less. more.stop (omega (arith, before.most, less));
-      entry = if_some c.run_refilled-steps.result.entry (λ entry is.
-          let has = subst (λ (o : Option Entry). IfSome o (λ x. (k < c.plain_most-plain.result - j) × StandsAt now e x)) is more.entry in
-          (omega (arith, before.most, has.0), has.1));
+      stuck = λ less. more.stop (omega (arith, c.if-steps-eq0.false)) (omega (arith, before.most, less));
+      missed = λ less. more.missed (omega (arith, c.if-steps-eq0.false)) (omega (arith, before.most, less));
+      entry = λ some. omega (arith, before.most, more.entry some);
+      told = λ less. more.told (omega (arith, before.most, less));
+      apart = more.apart;
     }
 
 pub returns-then-steps-eq0-clause-tlb : goal.returns-then-steps-eq0-clause-tlb
 returns-then-steps-eq0-clause-tlb c =
     none_cached c.args.self.now c.loop-steps.self c.run_refilled-steps.new.self c.loop-steps.done c.run_refilled-steps.result.made c.if-steps-eq0.true c.loop-steps.invariant.tlb c.run_refilled-steps.ensures.tlb
+
+-- the next step ends the stretch where nothing is wanted any more, and where a refill was in vain
+pub returns-in_default-clause-stop : goal.returns-in_default-clause-stop
+returns-in_default-clause-stop c = λ less.
+    let plain : c.plain_most-plain.result ≡ plain_ticks c.args.self.now.slots c.args.self.now.revocations c.args.self.now.time c.args.most =
+    c.plain_most-plain.ensures ∙ ap (λ t. plain_ticks c.self.inside.slots c.self.inside.revocations t c.args.most) c.ticks.ensures.ticks
+    ∙ ap (λ (s : Shown). plain_ticks s.slots s.revocations s.time c.args.most) c.self.view_is in
+    let more : c.loop-steps.done < c.plain_most-plain.result = subst (λ n. c.loop-steps.done < n) (sym plain) less in
+    ends_unwanted c.loop-steps.self c.args.env (c.loop-steps.invariant.stuck more)
+    (subst (IsOfMiss c.loop-steps.self c.args.env) c.in_default.is (c.loop-steps.invariant.missed more))
+
+pub returns-then-steps-eq0-clause-stop : goal.returns-then-steps-eq0-clause-stop
+returns-then-steps-eq0-clause-stop c = λ less. c.run_refilled-steps.ensures.ends c.if-steps-eq0.true

@@ -1,8 +1,8 @@
 -- So many plain ticks were made, and what they made of the TLB is the model's.
-use Rattle.std.specs.Prelude.{◌≡◌, ◌≤◌, ◌<◌, ◌-◌, IfSome, IsSome}
+use Rattle.std.specs.Prelude.{◌≡◌, ◌≤◌, ◌<◌, ◌-◌, IsSome, None}
 use Rattle.board_model.specs.Stretch.{ArePlain}
-use Rattle.aegis_calls.specs.Cached.{AreCachedTicks, IsStuck, stretched_with}
-use Rattle.aegis_calls.specs.Entering.{StandsAt}
+use Rattle.aegis_calls.specs.Cached.{AreCachedTicks, IsOfMiss, IsStuck, stretched_with}
+use Rattle.aegis_calls.specs.Entering.{Tells}
 use Rattle.aegis_calls.proofs.board.Board.run_plain.Given as goal
 
 abbrev pub invariant-loop-steps : goal.invariant-loop-steps
@@ -13,7 +13,10 @@ invariant-loop-steps l = record {
   most : l.done ≤ l.plain;
   wanted : IsSome l.steps.wanted → l.done < l.plain;
   stuck : l.done < l.plain → IsStuck l.self l.env;
-  entry : IfSome l.steps.entry (λ entry. (l.done < l.plain) × StandsAt l.self l.env entry);
+  missed : l.done < l.plain → IsOfMiss l.self l.env l.steps.wanted;
+  entry : IsSome l.steps.entry → l.done < l.plain;
+  told : l.done < l.plain → Tells l.self l.env l.steps.entry;
+  apart : IsSome l.steps.wanted → l.steps.entry ≡ None;
 }
 
 abbrev pub decreases-loop-steps : goal.decreases-loop-steps

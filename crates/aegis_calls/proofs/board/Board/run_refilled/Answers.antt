@@ -1,13 +1,14 @@
 -- A row is refilled, and the runner goes on; or it is put back.
-use Rattle.std.proofs.Common.{◌≡◌, ◌<◌, ◌+◌, ◌/◌, ◌∙◌, ap, sym, refl, subst, arith, ℕ, Some}
+use Rattle.std.proofs.Common.{◌≡◌, ◌<◌, ◌+◌, ◌/◌, ◌∙◌, ap, sym, refl, subst, arith, ℕ, None, Some}
 use Rattle.std.specs.Prelude.{slice_index_or, slice_set}
-use Rattle.aegis_limits.specs.Limits.{environment_numbers, page_size}
+use Rattle.aegis_limits.specs.Limits.{environment_numbers, page_size, vpn_end}
 use Rattle.r3k_tlb.specs.declared.row.Row.{Row}
 use Rattle.r3k_tlb.specs.Row.{emptied_row}
 use Rattle.r3k_tlb.specs.Rows.{with_row_at}
 use Rattle.tlb_model.specs.declared.fills.Fills.{Fills}
 use Rattle.tlb_model.specs.Cache.{no_fills, row_for, with_random_fallen}
 use Rattle.tlb_course.specs.Course.{cache_after_ticks}
+use Rattle.tlb_laws.specs.Laws.{MissesRefill}
 use Rattle.world_model.specs.Book.{running}
 use Rattle.board_model.specs.Doing.{lookup_of}
 use Rattle.board_model.specs.Refilling.{with_refilled}
@@ -17,9 +18,10 @@ use Rattle.board_model.specs.Sound.{HasRunner, IsSoundBoard}
 use Rattle.board_model.specs.Stretch.{ArePlain, IsQuiet, stretched}
 use Rattle.board_model.proofs.Refills.{lookup_there}
 use Rattle.board_model.proofs.Staying.{sound_tlb}
-use Rattle.aegis_calls.specs.Cached.{FindRows, IsStuck}
+use Rattle.aegis_calls.specs.Cached.{FindRows, EndsStretch, IsOfMiss, IsStuck}
+use Rattle.aegis_calls.specs.Entering.{Tells}
 use Rattle.aegis_calls.proofs.Attempts.{words_fit}
-use Rattle.aegis_calls.proofs.Refilled.{IsFor, is_for, no_ticks, put_back, refilled_is_sound, refilled_ticks, with_row}
+use Rattle.aegis_calls.proofs.Refilled.{IsFor, is_for, ends_in_vain, ends_nowhere, no_ticks, not_refilled, put_back, refilled_is_sound, refilled_ticks, with_row}
 use Rattle.aegis_calls.proofs.Runner.{runner_live, seen}
 use Rattle.aegis_calls.proofs.board.Board.run_refilled.Goals as goal
 
@@ -46,7 +48,7 @@ invariant_of-self-2 c =
 abbrev raised : (c : goal.After-fall) → Shown
 raised c = record (seen c.self.view_is) { tlb = record { rows = c.refill.new.tlb; random = c.self.inside.machine.cp0.random; fills = c.refill.new.fills } }
 
-raised_for : (c : goal.After-fall) → IsFor (seen c.self.view_is) c.args.env (raised c)
+raised_for : (c : goal.After-fall) → IsFor (seen c.self.view_is) c.args.env (c.args.address / page_size) (raised c)
 raised_for c =
     is_for (seen c.self.view_is) c.args.env (c.args.address / page_size) c.random-random.result c.space_in-space.result c.refill.new.tlb c.refill.new.fills c.space_in-space.ensures
     c.refill.ensures.rows c.refill.ensures.fills c.random-random.ensures.row (sym c.refill.ensures.refilled ∙ c.if-not-refill.false)
@@ -79,7 +81,7 @@ returns-then-steps-gt0-clause-tlb c = λ schedule quiet.
 abbrev tried : (c : goal.After-way_told-2-1) → Shown
 tried c = record (seen c.self.view_is) { tlb = record { rows = c.refill.new.tlb; random = c.self.inside.machine.cp0.random; fills = c.refill.new.fills } }
 
-tried_for : (c : goal.After-way_told-2-1) → IsFor (seen c.self.view_is) c.args.env (tried c)
+tried_for : (c : goal.After-way_told-2-1) → IsFor (seen c.self.view_is) c.args.env (c.args.address / page_size) (tried c)
 tried_for c =
     is_for (seen c.self.view_is) c.args.env (c.args.address / page_size) c.random-random.result c.space_in-space.result c.refill.new.tlb c.refill.new.fills c.space_in-space.ensures
     c.refill.ensures.rows c.refill.ensures.fills c.random-random.ensures.row (sym c.refill.ensures.refilled ∙ c.if-not-refill.false)
@@ -122,5 +124,38 @@ invariant_of-self-3 c = subst IsSoundBoard (sym (is_restored c)) c.self.invarian
 pub returns-clause-tlb : goal.returns-clause-tlb
 returns-clause-tlb c = λ schedule quiet. ap (λ (s : Shown). s.tlb) (is_restored c ∙ c.self.view_is)
 
-pub returns-clause-stop : goal.returns-clause-stop
-returns-clause-stop c = λ some. subst (λ (s : Shown). IsStuck s c.args.env) (sym (is_restored c ∙ c.self.view_is)) c.requires.stuck
+pub returns-clause-told : goal.returns-clause-told
+returns-clause-told c = λ some. subst (λ (s : Shown). Tells s c.args.env None) (sym (is_restored c ∙ c.self.view_is)) c.requires.untold
+
+-- ---- the step ends the stretch
+
+ends_unmapped : {b now : Shown} (same : b ≡ now) (e address : ℕ) → MissesRefill → IsSoundBoard b → running now.slots.runner ≡ Some e → IsStuck now e → IsOfMiss now e (Some address)
+    → (address / page_size < vpn_end → lookup_of b e (address / page_size) ≡ None) → EndsStretch b e
+ends_unmapped {b} {now} same e address misses sound runs stuck missed nowhere =
+    ends_nowhere misses b e address sound (small same sound runs) (subst (λ (s : Shown). IsStuck s e) (sym same) stuck) (subst (λ (s : Shown). IsOfMiss s e (Some address)) (sym same) missed) nowhere
+
+pub returns-then-vpn-ge-VPN_END-clause-ends : goal.returns-then-vpn-ge-VPN_END-clause-ends
+returns-then-vpn-ge-VPN_END-clause-ends c = λ nothing.
+    subst (λ (s : Shown). EndsStretch s c.args.env) c.self.view_is (ends_unmapped c.self.view_is c.args.env c.args.address c.law_misses.ensures c.self.invariant c.requires.runs c.requires.stuck c.requires.missed
+    (λ below. absurd (omega (arith, below, c.if-vpn-ge-VPN_END.true))))
+
+pub returns-then-not-refill-clause-ends : goal.returns-then-not-refill-clause-ends
+returns-then-not-refill-clause-ends c = λ nothing.
+    let b = seen c.self.view_is in
+    let kept = not_refilled b c.args.env (c.args.address / page_size) c.random-random.result c.space_in-space.result c.refill.new.tlb c.refill.new.fills c.space_in-space.ensures
+    c.refill.ensures.rows c.refill.ensures.fills (sym c.refill.ensures.refilled ∙ c.if-not-refill.true) in
+    subst (λ (s : Shown). EndsStretch s c.args.env) (sym kept.1)
+    (ends_unmapped c.self.view_is c.args.env c.args.address c.law_misses.ensures c.self.invariant c.requires.runs c.requires.stuck c.requires.missed (λ below. kept.0))
+
+pub returns-clause-ends : goal.returns-clause-ends
+returns-clause-ends c = λ nothing.
+    let b = seen c.self.view_is in
+    let e = c.args.env in
+    let its = tried_for c in
+    let none : c.run_found-steps.result.made ≡ 0 = omega (arith, c.if-steps-gt0.false) in
+    let at : c.run_found-steps.new.self ≡ with_row b e its.mapping =
+    c.run_found-steps.ensures.after ∙ ap (stretched (tried c) e) none ∙ no_ticks (tried c) e ∙ its.board in
+    let vain : IsStuck (with_row b e its.mapping) e = subst (λ (s : Shown). IsStuck s e) at (c.run_found-steps.ensures.stop (omega (arith, none, c.requires.more))) in
+    subst (λ (s : Shown). EndsStretch s e) (sym (is_restored c))
+    (ends_in_vain b e c.args.address its.mapping (subst (λ (s : Shown). IsStuck s e) (sym c.self.view_is) c.requires.stuck)
+    (subst (λ (s : Shown). IsOfMiss s e (Some c.args.address)) (sym c.self.view_is) c.requires.missed) its.there vain)

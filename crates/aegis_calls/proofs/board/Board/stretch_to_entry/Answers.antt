@@ -1,15 +1,14 @@
 -- So many plain ticks went by, and the runner's next step is stuck where more might have.
 use Rattle.std.proofs.Common.{◌≡◌, ◌∙◌, ◌<◌, ◌+◌, ap, refl, sym, subst, arith, rules, false, ℕ, None, Some, Option}
-use Rattle.std.specs.Prelude.{IfSome, IsSome}
+use Rattle.std.specs.Prelude.{IsSome}
 use Rattle.revocation_book.specs.RevocationBook.{RevocationBook, is_any_due, next_deadline}
-use Rattle.r3k_machine.specs.declared.entry.Entry.{Entry}
 use Rattle.slot_vector.specs.Slices.{Slices}
 use Rattle.world_model.specs.declared.slot.Runner.{Runner}
 use Rattle.world_model.specs.Book.{running}
 use Rattle.board_model.specs.Shown.{Shown}
 use Rattle.board_model.specs.Stretch.{plain_ticks}
-use Rattle.aegis_calls.specs.Cached.{IsStuck}
-use Rattle.aegis_calls.specs.Entering.{StandsAt}
+use Rattle.aegis_calls.specs.Cached.{EndsStretch}
+use Rattle.aegis_calls.specs.Entering.{StandsAt, Tells}
 use Rattle.aegis_calls.proofs.Attempts.{if_some}
 use Rattle.aegis_calls.proofs.Stretched.{none_due, passed, runs_on}
 use Rattle.aegis_calls.proofs.board.Board.stretch_to_entry.Goals as goal
@@ -19,7 +18,11 @@ same_runner o e f is too = let both : Some e ≡ Some f = sym is ∙ too in cc
 
 pub returns-in-Some-clause-stop : goal.returns-in-Some-clause-stop
 returns-in-Some-clause-stop c = λ e runs less.
-    subst (IsStuck c.run_plain.new.self) (same_runner _ c.in-Some.env e (sym c.runner.ensures ∙ c.in-Some.is) runs) (c.run_plain.ensures.stop less)
+    subst (EndsStretch c.run_plain.new.self) (same_runner _ c.in-Some.env e (sym c.runner.ensures ∙ c.in-Some.is) runs) (c.run_plain.ensures.stop less)
+
+pub returns-in-Some-clause-told : goal.returns-in-Some-clause-told
+returns-in-Some-clause-told c = λ e runs less.
+    subst (λ (n : ℕ). Tells c.run_plain.new.self n c.run_plain.result.entry) (same_runner _ c.in-Some.env e (sym c.runner.ensures ∙ c.in-Some.is) runs) (c.run_plain.ensures.told less)
 
 -- plain ticks come before so many are made, and before the next deadline
 within_plain : (slots : Slices) (book : RevocationBook) (t most made : ℕ) → made < plain_ticks slots book t most → (made < most) × (t + made < next_deadline book)
@@ -46,7 +49,7 @@ returns-in-Some-clause-entry c = if_some c.run_plain.result.entry (λ entry is.
     let before = (within_plain b.slots b.revocations b.time c.args.most k (c.run_plain.ensures.early some)).1 in
     let after = c.run_plain.ensures.after in
     let goes : running now.slots.runner ≡ Some env = ap (λ (s : Shown). running s.slots.runner) after ∙ runs_on k b.slots.runner ∙ runs in
-    let stands = subst (λ (o : Option Entry). IfSome o (StandsAt now env)) is c.run_plain.ensures.entry in
+    let stands : StandsAt now env entry = subst (Tells now env) is (c.run_plain.ensures.told (c.run_plain.ensures.early some)) in
     record {
       runs = subst (λ (s : Shown). IsSome s.slots.runner) (sym after) (runs_still k b.slots.runner env runs);
       early = subst (λ (s : Shown). is_any_due s.revocations s.time ≡ false) (sym after) (none_due b.revocations (b.time + k) before);
