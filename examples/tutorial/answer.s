@@ -45,7 +45,7 @@ handler: lhu $8, 6($0)          # who sent it
         lhu  $8, 12($0)         # its kind
         sh   $8, 0x100c($0)
         ori  $4, $0, 0x1000     # the reply: from here,
-        ori  $5, $0, 14         # so many bytes
+        ori  $5, $0, 14         # of this length
         syscall
 done:
 .data

@@ -1,4 +1,4 @@
-# Step 6: a pipe. Puts each byte that comes from writer.s, and exits behind the line feed.
+# Step 6: a pipe. Puts each byte that writer.s sends, and exits after the line feed.
 start:  li   $2, 6              # bind
         li   $4, 0x500
         li   $5, 200

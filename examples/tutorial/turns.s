@@ -1,8 +1,8 @@
-# Step 3: puts a letter three times, and yields behind each. The letter is `a` in environment 0, and `b` in environment 1.
+# Step 3: puts a letter three times, and yields after each. The letter is `a` in environment 0, and `b` in environment 1.
 start:  li   $2, 20             # self: the environment's number
         syscall
         la   $8, letter
-        addiu $9, $3, 97        # the letter `a`, and the one behind it
+        addiu $9, $3, 97        # the letter `a`, and the one after it
         sb   $9, 0($8)
         li   $16, 3
 again:  li   $2, 1              # put
