@@ -5,6 +5,7 @@ mod Nothing
 mod Others
 mod Own
 mod Passing
+mod Reports
 mod Rest
 mod Same
 mod Slicing

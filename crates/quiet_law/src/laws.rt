@@ -1,5 +1,6 @@
-//! What a quiet environment is given, and what it owes.
+//! What a quiet environment is given, what it owes, and what reports show of it.
 ghost use Rattle.quiet_law.specs.Quiet.{QuietHasOwnPagesAlone, QuietIsAlone, QuietIsSame, QuietOwesAlone, QuietOwesSame};
+ghost use Rattle.quiet_law.specs.Twin.{QuietIsShownAlike};
 
 use call_verdicts::{law_again, law_granted};
 use revocation_book::{law_richest, law_takable};
@@ -22,4 +23,14 @@ pub fn law_quiet()
     law_takable();
     law_alone();
     law_slices();
+}
+
+/// In two systems in which an environment is quiet and has one record, its version included, and one quantum, all lines
+/// of a report that show it at the end of its slice n are the same, the line of its excess too.
+pub fn law_quiet_text()
+    ensures { QuietIsShownAlike }
+{
+    law_quiet();
+    law_slices();
+    law_alone();
 }

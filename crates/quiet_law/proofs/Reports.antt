@@ -13,7 +13,7 @@ use Rattle.run_model.specs.Run.{IsFoldOfFeed, world_after}
 use Rattle.run_report.specs.Report.{bind_lines, cpu_line, env_line, env_text, excess_line, if_live, keep_lines, living_lines, out_line, page_line, page_lines, regs_line, sent_lines, shown_cpu}
 use Rattle.quiet_law.specs.Quiet.{QuietHasOwnPagesAlone, QuietIsSame, QuietOwesSame}
 use Rattle.run_model.specs.Slices.{SlicesEndStopped}
-use Rattle.twin_law.specs.Twin.{QuietIsShownAlike}
+use Rattle.quiet_law.specs.Twin.{QuietIsShownAlike}
 
 -- no page has a line, where none is seen
 no_pages : (e : ℕ) (seen : ℕ → Option Seen) → ((page : ℕ) → seen page ≡ None) → (count : ℕ) → page_lines e seen count ≡ []
