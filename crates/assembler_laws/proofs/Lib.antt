@@ -1,0 +1,12 @@
+mod ArgTexts
+mod BasedTexts
+mod FieldTexts
+mod LineTexts
+mod Listings
+mod Loading
+mod NumberTexts
+mod Numbers
+mod OperandTexts
+mod RowTexts
+mod Statements
+mod WordTexts

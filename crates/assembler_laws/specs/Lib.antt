@@ -1,0 +1,4 @@
+pub mod Memory
+pub mod OneWord
+pub mod Statement
+pub mod Texts
