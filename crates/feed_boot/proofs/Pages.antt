@@ -14,8 +14,8 @@ use Rattle.world_model.specs.Solo.{absent}
 use Rattle.world_model.specs.Table.{listed}
 use Rattle.world_model.specs.World.{World}
 use Rattle.std.proofs.lemmas.Option.{slice_get_within}
-use Rattle.item_views.specs.Views.{ArePages, AreWords, IsRecordFit, IsWord, ItemSeen, item_seen, record_text, view_of}
-use Rattle.item_views.specs.declared.view.ItemKind.TheVariants as kind
+use Rattle.feed_log.specs.Views.{ArePages, AreWords, IsRecordFit, IsWord, ItemSeen, item_seen, record_text, view_of}
+use Rattle.feed_log.specs.declared.view.ItemKind.TheVariants as kind
 use Rattle.feed_log.specs.Log.{with_items}
 use Rattle.aegis_limits.specs.VersionLimits.{version_number}
 use Rattle.run_model.specs.Boot.{body_page, boot_items, boot_world, kept_of, record_items, stack_page}

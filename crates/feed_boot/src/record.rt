@@ -2,7 +2,7 @@
 ghost use Rattle.std.specs.Prelude.{◌≡◌, ◌++◌, ◌<◌, IfOk, OnOk, option_map, slice_get};
 ghost use Rattle.std.specs.List.{AllByRecursion, flat_map};
 ghost use Rattle.frame_store.specs.Pages.{word_bytes};
-ghost use Rattle.item_views.specs.Views.{IsFit, IsRecordFit, page_text, record_text};
+ghost use Rattle.feed_log.specs.Views.{IsFit, IsRecordFit, page_text, record_text};
 ghost use Rattle.feed_log.specs.Log.{with_items};
 ghost use Rattle.world_model.specs.View.{view_seen};
 ghost use Rattle.run_model.specs.Boot.{boot_items, boot_world, kept_of};
@@ -10,8 +10,7 @@ ghost use Rattle.run_model.specs.Boot.{boot_items, boot_world, kept_of};
 use aegis_limits::OutOfMemory;
 use boot_image::{Image, Program};
 use byteorder::{ByteOrder, LittleEndian};
-use feed_log::FeedLog;
-use item_views::{ItemKind, ItemView};
+use feed_log::{FeedLog, ItemKind, ItemView};
 use std::alloc::Global;
 use world_model::{PageView, WorldView};
 

@@ -4,7 +4,7 @@ use Rattle.std.specs.Prelude.{◌||◌}
 use Rattle.std.specs.List.{flat_map, list_any}
 use Rattle.std.proofs.Math.ListN.{drop_of_length-le}
 use Rattle.std.proofs.lemmas.List.{append_assoc, drop-append-le, drop-drop, drop-replicate, length-replicate, take-append-drop}
-use Rattle.item_views.specs.Views.{ItemSeen}
+use Rattle.feed_log.specs.Views.{ItemSeen}
 use Rattle.feed_log.specs.Log.{Run, StandsFirst, begins_seen, is_empty, run_items}
 
 -- a run of which the first are read

@@ -1,9 +1,9 @@
 -- Items that aren't read yet.
 use Rattle.std.specs.Prelude.{◌≡◌, ◌<◌, ℕ, List, [], ◌∷◌, ◌++◌, map, take, replicate, Bool, true, false}
-use Rattle.item_views.specs.declared.view.ItemKind.{ItemKind}
-use Rattle.item_views.specs.declared.view.ItemKind.TheVariants as kind
-use Rattle.item_views.specs.declared.view.ItemView.{ItemView}
-use Rattle.item_views.specs.Views.{ItemSeen, item_seen, view_of}
+use Rattle.feed_log.specs.declared.view.ItemKind.{ItemKind}
+use Rattle.feed_log.specs.declared.view.ItemKind.TheVariants as kind
+use Rattle.feed_log.specs.declared.view.ItemView.{ItemView}
+use Rattle.feed_log.specs.Views.{ItemSeen, item_seen, view_of}
 use Rattle.world_model.specs.Item.{Item}
 
 -- an item and how many times it stands in a row

@@ -2,8 +2,8 @@
 ghost use Rattle.std.specs.Prelude.{◌≡◌, ◌<◌, ◌-◌, IfOk};
 ghost use Rattle.feed_log.specs.Log.{Run, shown};
 
+use crate::view::{ItemKind, ItemView};
 use aegis_limits::OutOfMemory;
-use item_views::{ItemKind, ItemView};
 use std::alloc::Global;
 use std::marker::Model;
 
@@ -19,7 +19,7 @@ pub(crate) struct Entry {
 
 impl Model for Entry {
     ghost use Rattle.std.specs.Prelude.{◌<◌};
-    ghost use Rattle.item_views.specs.Views.{view_of};
+    ghost use Rattle.feed_log.specs.Views.{view_of};
     ghost use Rattle.feed_log.specs.Log.{Run};
 
     ghost Value = { Run };

@@ -1,13 +1,13 @@
 //! The log of an environment.
 ghost use Rattle.std.specs.Prelude.{◌≡◌, ◌++◌, [], ◌∷◌, drop, replicate, true, ◌==◌, ◌<◌, ◌≤◌, false, IfOk, MatchOption, OnOk, OnErr};
 ghost use Rattle.std.specs.List.{list_any};
-ghost use Rattle.item_views.specs.Views.{item_seen};
+ghost use Rattle.feed_log.specs.Views.{item_seen};
 ghost use Rattle.world_model.specs.Item.{Step};
 ghost use Rattle.feed_log.specs.Log.{StandsFirst, begins_kind, begins_seen, is_empty, shown};
 
 use crate::entry::Entry;
+use crate::view::{ItemKind, ItemView};
 use aegis_limits::OutOfMemory;
-use item_views::{ItemKind, ItemView};
 use std::alloc::Global;
 use std::marker::Model;
 
@@ -30,7 +30,7 @@ pub struct FeedLog {
 impl Model for FeedLog {
     ghost use Rattle.std.specs.Prelude.{◌≤◌, List, drop, length};
     ghost use Rattle.std.specs.List.{flat_map};
-    ghost use Rattle.item_views.specs.Views.{ItemSeen};
+    ghost use Rattle.feed_log.specs.Views.{ItemSeen};
     ghost use Rattle.feed_log.specs.Log.{run_items};
 
     ghost Value = { List ItemSeen };

@@ -2,7 +2,7 @@
 use Rattle.std.proofs.Common.{◌≡◌, ◌+◌, suc, Bool, false, sym, ◌∙◌, ap, arith}
 use Rattle.std.specs.Prelude.{if◌then◌else◌}
 use Rattle.run_model.specs.Slices.{slices}
-use Rattle.told_run.specs.Progress.{Progress, WentOn, ended}
+use Rattle.feed_log.specs.Progress.{Progress, WentOn, ended}
 use Rattle.feed_run.specs.Whole.{WentATick, WentPlain}
 
 pub both_went : (p q r : Progress) → WentATick p q false → WentPlain q r → WentOn p r

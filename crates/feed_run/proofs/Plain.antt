@@ -17,14 +17,14 @@ use Rattle.run_model.specs.Boot.{boot_world}
 use Rattle.run_model.specs.Live.{StoresAreLive}
 use Rattle.run_model.specs.Run.{System, TimeIsTick, feed, items_in, world_after, world_after_ticks}
 use Rattle.run_model.specs.Slices.{begins_in, begins_slice, ends_in, runs_after, slices}
-use Rattle.item_views.specs.Views.{ItemSeen, item_seen}
+use Rattle.feed_log.specs.Views.{ItemSeen, item_seen}
 use Rattle.feed_telling.specs.Tell.{AreFit}
 use Rattle.board_model.specs.Shown.{Shown}
 use Rattle.board_model.specs.Showing.{world_of}
 use Rattle.board_model.specs.Stretch.{AreSteady, IsAtStep, IsOwnTick, IsQuiet}
 use Rattle.tlb_course.specs.Further.{WorldsGoOn}
 use Rattle.aegis_calls.specs.QuietTicks.{AreQuietTicks, AreSteadyTicks}
-use Rattle.told_run.specs.Progress.{Progress}
+use Rattle.feed_log.specs.Progress.{Progress}
 use Rattle.feed_run.specs.Whole.{AreUnread, IsBetween, WentPlain}
 use Rattle.feed_run.specs.Reach.{IsOutOfReach}
 use Rattle.feed_run.proofs.OthersTick.{others_tick, still_out_of_reach}

@@ -14,7 +14,7 @@ use Rattle.world_model.specs.Item.{Item}
 use Rattle.world_model.specs.World.{World, in_turn, run_phases}
 use Rattle.run_model.specs.Run.{System, feed, happens_in, items_in, next_items, next_world, world_after}
 use Rattle.run_model.specs.Slices.{begins_in, ends_in, runs_after, slices}
-use Rattle.item_views.specs.Views.{ItemSeen, item_seen}
+use Rattle.feed_log.specs.Views.{ItemSeen, item_seen}
 use Rattle.feed_log.specs.Log.{begins_seen}
 use Rattle.feed_telling.specs.Tell.{AreFit}
 use Rattle.board_model.specs.Shown.{Shown}

@@ -5,13 +5,13 @@ use Rattle.std.specs.List.{list_any}
 use Rattle.std.proofs.Math.ListN.{drop_of_length-le}
 use Rattle.std.proofs.lemmas.List.{drop-append-le, length-append, length-map, map-append}
 use Rattle.world_model.specs.Item.{Item, Boot, Step, Start, End, Transfer, Killed, Answer, Gained, Lost, Left, Packet, Line, Asked, Taken}
-use Rattle.item_views.specs.Views.{AlikeWhereShownAlike, IsFit, ItemSeen, item_seen}
+use Rattle.feed_log.specs.Views.{AlikeWhereShownAlike, IsFit, ItemSeen, item_seen}
 use Rattle.feed_log.specs.Log.{StandsFirst, begins_seen, shown}
-use Rattle.item_views.specs.declared.view.ItemView.{ItemView}
+use Rattle.feed_log.specs.declared.view.ItemView.{ItemView}
 use Rattle.feed_telling.specs.Tell.{AreFit}
 use Rattle.feed_telling.proofs.Telling.{both_fit}
 use Rattle.run_model.specs.Slices.{begins_slice}
-use Rattle.told_run.specs.Progress.{BeginsWith, IsFirst, lent_seen}
+use Rattle.feed_log.specs.Progress.{BeginsWith, IsFirst}
 use Rattle.feed_run.specs.Whole.{AreUnread}
 
 -- more items are told
@@ -103,4 +103,4 @@ module _ (alike : AlikeWhereShownAlike) where
   first_of xs log (Some x) unread first =
       let k = length xs - length log in
       let row = ap (take x.1) (sym (unread.last ∙ drop_map k xs)) ∙ first.row in
-      row_begins (drop k xs) (lent_seen x.0) x.1 (fit_behind k xs unread.fit) first.some row
+      row_begins (drop k xs) (shown x.0) x.1 (fit_behind k xs unread.fit) first.some row

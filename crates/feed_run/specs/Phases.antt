@@ -4,7 +4,7 @@ use Rattle.external_event.specs.declared.event.Occurrence.{Occurrence}
 use Rattle.world_model.specs.Deadlines.{takings}
 use Rattle.world_model.specs.Tick.{phases_after}
 use Rattle.world_model.specs.World.{World, Reply, in_turn, run_phases}
-use Rattle.item_views.specs.Views.{ItemSeen}
+use Rattle.feed_log.specs.Views.{ItemSeen}
 use Rattle.feed_telling.specs.Tell.{AreTold}
 use Rattle.aegis_tick.specs.Course.{world_with}
 

@@ -8,8 +8,8 @@ use Rattle.world_model.specs.Item.{Item}
 use Rattle.run_model.specs.Boot.{boot_world}
 use Rattle.run_model.specs.Run.{System, feed, world_after}
 use Rattle.run_model.specs.Slices.{ends_in, slices}
-use Rattle.item_views.specs.Views.{ItemSeen, item_seen}
-use Rattle.told_run.specs.Progress.{Progress, ended}
+use Rattle.feed_log.specs.Views.{ItemSeen, item_seen}
+use Rattle.feed_log.specs.Progress.{Progress, ended}
 use Rattle.feed_telling.specs.Tell.{AreFit}
 use Rattle.board_model.specs.Shown.{Shown}
 use Rattle.board_model.specs.Showing.{world_of}

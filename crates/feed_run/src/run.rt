@@ -2,7 +2,7 @@
 ghost use Rattle.std.specs.Prelude.{◌≡◌, IfOk, true};
 ghost use Rattle.external_event.specs.Order.{are_in_order};
 ghost use Rattle.world_model.specs.Event.{schedule_of};
-ghost use Rattle.told_run.specs.Progress.{at_boot};
+ghost use Rattle.feed_log.specs.Progress.{at_boot};
 
 use aegis_calls::Board;
 use aegis_limits::{MOST_TICKS, OutOfMemory};
@@ -10,10 +10,8 @@ use aegis_tick::boot;
 use boot_image::Image;
 use external_event::Event;
 use feed_boot::tell_record;
-use feed_log::FeedLog;
-use item_views::{ItemView, law_views};
+use feed_log::{FeedLog, ItemView, ToldRun, law_views};
 use std::alloc::Global;
-use told_run::ToldRun;
 use world_model::WorldView;
 
 /// A run of a board in which what one environment is given is told: its record at boot, and then what each tick brings.

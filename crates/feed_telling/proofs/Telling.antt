@@ -2,7 +2,7 @@
 use Rattle.std.proofs.Common.{◌≡◌, arith, ℕ, suc, Fits, w32, slice_index_or, List, [], ◌∷◌, ◌++◌, sym, ◌∙◌, ap, subst}
 use Rattle.std.specs.Prelude.{OnOk, Result, Ok, Err, map}
 use Rattle.std.proofs.lemmas.List.{append-nil, append_assoc, map-append}
-use Rattle.item_views.specs.Views.{AreWords, ItemSeen, item_seen}
+use Rattle.feed_log.specs.Views.{AreWords, ItemSeen, item_seen}
 use Rattle.world_model.specs.Item.{Item}
 use Rattle.feed_telling.specs.Tell.{AreFit, AreTold}
 

@@ -1,6 +1,6 @@
 -- What is told of a phase.
 use Rattle.std.specs.Prelude.{◌≡◌, ℕ, List, [], ◌∷◌, Option, Some, None, if◌then◌else◌}
-use Rattle.item_views.specs.Views.{IsFit, ItemSeen}
+use Rattle.feed_log.specs.Views.{IsFit, ItemSeen}
 use Rattle.feed_log.specs.Log.{with_items}
 use Rattle.page_book.specs.Row.{belongs_to}
 use Rattle.world_model.specs.Book.{Book}

@@ -1,13 +1,12 @@
 //! Items, each told at the end of the log as it is shown.
 ghost use Rattle.std.specs.Prelude.{◌≡◌, ◌≢◌, ◌++◌, [], ◌∷◌, IfSome, OnOk};
-ghost use Rattle.item_views.specs.Views.{view_of};
+ghost use Rattle.feed_log.specs.Views.{view_of};
 ghost use Rattle.world_model.specs.Call.{any};
 ghost use Rattle.world_model.specs.Item.{Step, Start, End, Killed, Answer, Gained, Lost, Left, Packet, Line, Asked, Taken};
 ghost use Rattle.feed_telling.specs.Tell.{AreTold};
 
 use aegis_limits::OutOfMemory;
-use feed_log::FeedLog;
-use item_views::{ItemKind, ItemView};
+use feed_log::{FeedLog, ItemKind, ItemView};
 use world_model::Verdict;
 
 /// The number that stands for no backup.

@@ -1,7 +1,7 @@
 //! The registers that a transfer hands on.
 ghost use Rattle.std.specs.Prelude.{◌≡◌, [], ◌∷◌, OnOk};
 ghost use Rattle.env_frames.specs.Transfer.{carried};
-ghost use Rattle.item_views.specs.Views.{AreRegistersFit, AreWords, transfer_text};
+ghost use Rattle.feed_log.specs.Views.{AreRegistersFit, AreWords, transfer_text};
 ghost use Rattle.world_model.specs.Item.{Transfer};
 ghost use Rattle.feed_telling.specs.Tell.{AreTold};
 
@@ -9,8 +9,7 @@ use crate::items::tell;
 use aegis_limits::OutOfMemory;
 use byteorder::{ByteOrder, LittleEndian};
 use env_frames::TransferKind;
-use feed_log::FeedLog;
-use item_views::ItemKind;
+use feed_log::{FeedLog, ItemKind};
 use mips_exec::Cpu;
 
 /// The bytes of registers 1 to 31.

@@ -4,9 +4,9 @@ use Rattle.std.specs.Prelude.{bytes_eq, codes, if◌then◌else◌, ◌==◌, �
 use Rattle.std.proofs.lemmas.Bool.{and_parts}
 use Rattle.std.proofs.lemmas.Bool.Decides.{Decides-eqb}
 use Rattle.std.proofs.lemmas.Slice.Eq.{bytes_eq-Decides}
-use Rattle.item_views.specs.declared.view.ItemKind.{ItemKind}
-use Rattle.item_views.specs.declared.view.ItemKind.TheVariants as kind
-use Rattle.item_views.specs.Views.{ItemSeen, view_of}
+use Rattle.feed_log.specs.declared.view.ItemKind.{ItemKind}
+use Rattle.feed_log.specs.declared.view.ItemKind.TheVariants as kind
+use Rattle.feed_log.specs.Views.{ItemSeen, view_of}
 use Rattle.twin_run.specs.ItemText.{is_alike, kind_name}
 
 -- the kind that has a name

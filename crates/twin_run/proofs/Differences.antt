@@ -2,7 +2,7 @@
 use Rattle.std.proofs.Common.{◌≡◌, ◌<◌, ◌∙◌, ℕ, zero, suc, List, [], ◌∷◌, Bool, true, false, Option, Some, None, ap, arith, refl, subst, sym}
 use Rattle.std.specs.Prelude.{if◌then◌else◌, option_map, slice_get}
 use Rattle.world_model.specs.Item.{Item}
-use Rattle.item_views.specs.Views.{item_seen}
+use Rattle.feed_log.specs.Views.{item_seen}
 use Rattle.twin_run.specs.Answer.{first_difference, text_or_none}
 use Rattle.twin_run.specs.Course.{difference_of}
 use Rattle.twin_run.specs.ItemText.{is_alike}

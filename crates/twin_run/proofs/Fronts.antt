@@ -7,8 +7,8 @@ use Rattle.aegis_limits.specs.Limits.{most_ticks}
 use Rattle.world_model.specs.Item.{Item}
 use Rattle.run_model.specs.Run.{System, feed}
 use Rattle.run_model.specs.Slices.{IsEndOf}
-use Rattle.item_views.specs.Views.{item_seen}
-use Rattle.told_run.specs.Progress.{Progress, ended, told, unread}
+use Rattle.feed_log.specs.Views.{item_seen}
+use Rattle.feed_log.specs.Progress.{Progress, ended, told, unread}
 use Rattle.twin_run.specs.declared.difference.Difference.{Difference}
 use Rattle.twin_run.specs.Answer.{text_or_none}
 use Rattle.twin_run.specs.Course.{AreEnds, AreNextSame, AreSameBelow, CameApart, CameToItem, HasNext, IsDifference, IsDone, IsUnderWay, Reads, difference_at, difference_of, front, items_within, settled}

@@ -8,9 +8,10 @@ use Rattle.world_model.specs.Book.{is_idle_book}
 use Rattle.world_model.specs.Item.{Item}
 use Rattle.run_model.specs.Run.{world_after}
 use Rattle.run_model.specs.Slices.{IsEndOf, slices}
-use Rattle.item_views.specs.Views.{AlikeWhereShownAlike, ItemSeen, item_seen}
-use Rattle.item_views.specs.declared.view.ItemView.{ItemView}
-use Rattle.told_run.specs.Progress.{BeginsWith, IsFirst, IsOver, Progress, ended, lent_seen, unread}
+use Rattle.feed_log.specs.Views.{AlikeWhereShownAlike, ItemSeen, item_seen}
+use Rattle.feed_log.specs.declared.view.ItemView.{ItemView}
+use Rattle.feed_log.specs.Log.{shown}
+use Rattle.feed_log.specs.Progress.{BeginsWith, IsFirst, IsOver, Progress, ended, unread}
 use Rattle.twin_run.specs.Answer.{end_in_time, is_there, slices_in}
 use Rattle.twin_run.specs.Course.{AreApart, AreNextSame, CameToEnd, FellShort, IsUnderWay, WentOnTo}
 use Rattle.twin_run.specs.ItemText.{is_alike}
@@ -66,7 +67,7 @@ apart_unlike p q a b k l first next unlike x y left right =
 pub not_empty : (items : List Item) (o : Option (ItemView × ℕ)) → IsFirst items o → is_some o ≡ true → items ≡ [] → ⊥
 not_empty items None is some none = cc
 not_empty items (Some first) is some none =
-    let gone : None ≡ Some is.item = sym (ap (λ (xs : List Item). slice_get xs 0) none) ∙ there items (lent_seen first.0) first.1 is 0 is.some in cc
+    let gone : None ≡ Some is.item = sym (ap (λ (xs : List Item). slice_get xs 0) none) ∙ there items (shown first.0) first.1 is 0 is.some in cc
 
 -- how many slices have ended
 pub at_most : (n : ℕ) (p : Progress) → IsUnderWay n p → ended p ≤ n

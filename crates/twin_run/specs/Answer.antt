@@ -5,7 +5,7 @@ use Rattle.world_model.specs.Item.{Item}
 use Rattle.run_model.specs.Run.{System, feed, world_after}
 use Rattle.run_model.specs.Slices.{slices}
 use Rattle.run_report.specs.Report.{env_text, fingerprint}
-use Rattle.item_views.specs.Views.{item_seen}
+use Rattle.feed_log.specs.Views.{item_seen}
 use Rattle.twin_run.specs.declared.answer.Side.TheVariants as side
 use Rattle.twin_run.specs.declared.answer.TwinAnswer.{TwinAnswer}
 use Rattle.twin_run.specs.declared.answer.TwinAnswer.TheVariants.{FeedsDiffer, NotReached, Same}

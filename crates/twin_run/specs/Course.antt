@@ -4,8 +4,8 @@ use Rattle.aegis_limits.specs.Limits.{most_ticks}
 use Rattle.world_model.specs.Item.{Item}
 use Rattle.run_model.specs.Run.{System, feed}
 use Rattle.run_model.specs.Slices.{IsEndOf, slices}
-use Rattle.item_views.specs.Views.{item_seen}
-use Rattle.told_run.specs.Progress.{IsOver, Progress, at_boot, ended, unread}
+use Rattle.feed_log.specs.Views.{item_seen}
+use Rattle.feed_log.specs.Progress.{IsOver, Progress, at_boot, ended, unread}
 use Rattle.run_report.specs.Report.{fingerprint}
 use Rattle.twin_run.specs.declared.answer.TwinAnswer.{TwinAnswer}
 use Rattle.twin_run.specs.declared.answer.TwinAnswer.TheVariants.{FeedsDiffer, Same}

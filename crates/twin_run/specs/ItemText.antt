@@ -5,9 +5,9 @@ use Rattle.line_text.specs.Text.{dec_text}
 use Rattle.line_text.specs.WrittenLine.{bytes_text, or_dash, spaced}
 use Rattle.run_report.specs.Report.{fingerprint, mode_text}
 use Rattle.world_model.specs.Call.{any}
-use Rattle.item_views.specs.declared.view.ItemKind.{ItemKind}
-use Rattle.item_views.specs.declared.view.ItemKind.TheVariants as kind
-use Rattle.item_views.specs.Views.{ItemSeen}
+use Rattle.feed_log.specs.declared.view.ItemKind.{ItemKind}
+use Rattle.feed_log.specs.declared.view.ItemKind.TheVariants as kind
+use Rattle.feed_log.specs.Views.{ItemSeen}
 
 abbrev pub kind_name : ItemKind → List ℕ
 kind_name kind.Boot = codes "boot"

@@ -11,9 +11,9 @@ use crate::answer::{Side, TwinAnswer};
 use crate::course::{read_same, slices_short};
 use crate::difference::{Difference, next_difference};
 use aegis_limits::OutOfMemory;
+use feed_log::ToldRun;
 use run_report::{env_lines, fingerprint};
 use std::alloc::Global;
-use told_run::ToldRun;
 
 /// The first difference of what two runs give up to the end of so many slices, if there is one. Neither run goes on
 /// behind the end.

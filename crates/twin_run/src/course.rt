@@ -4,8 +4,7 @@ ghost use Rattle.twin_run.specs.Course.{AreNextSame, Begins, CameApart, CameToIt
 
 use crate::item_text::is_alike;
 use aegis_limits::OutOfMemory;
-use item_views::law_views;
-use told_run::ToldRun;
+use feed_log::{ToldRun, law_views};
 use world_model::WorldView;
 
 /// Lets a run go on to an item that wasn't read, if it comes to one before so many slices have ended.

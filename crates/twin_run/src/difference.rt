@@ -5,9 +5,8 @@ ghost use Rattle.twin_run.specs.Course.{difference_at, front};
 
 use crate::item_text::ItemText;
 use aegis_limits::OutOfMemory;
-use item_views::ItemView;
+use feed_log::{ItemView, ToldRun};
 use std::alloc::Global;
-use told_run::ToldRun;
 
 /// Where two feeds differ, with the texts of the items there.
 #[derive(Drop)]

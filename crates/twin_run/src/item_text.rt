@@ -5,11 +5,11 @@ ghost use Rattle.line_text.specs.Text.{dec_text};
 ghost use Rattle.line_text.specs.WrittenLine.{bytes_text, spaced, text_of};
 ghost use Rattle.line_text.specs.declared.line_writing.Word.TheVariants.{Number};
 ghost use Rattle.run_report.specs.Report.{fingerprint, mode_text};
-ghost use Rattle.told_run.specs.Progress.{lent_seen};
+ghost use Rattle.feed_log.specs.Log.{shown};
 ghost use Rattle.twin_run.specs.ItemText.{is_alike, item_text, kind_name, page_or_dash, words_behind};
 
 use aegis_limits::OutOfMemory;
-use item_views::{ItemKind, ItemView};
+use feed_log::{ItemKind, ItemView};
 use line_text::{Word, push_spaced, push_word};
 use run_report::fingerprint;
 use std::alloc::Global;
@@ -39,7 +39,7 @@ impl ItemText {
     /// The text of an item.
     #[tactic(auto, unfolding(crate::specs::ItemText::item_text))]
     pub(crate) fn of(alloc: Global, item: ItemView<'_>) -> Result<ItemText, OutOfMemory>
-        ensures { IfOk result (λ text. text ≡ item_text (lent_seen item.entry)) }
+        ensures { IfOk result (λ text. text ≡ item_text (shown item.entry)) }
     {
         let mut bytes = Vec::new(alloc);
         push_word(&mut bytes, Word::Text(kind_name(item.kind)))?;
@@ -88,7 +88,7 @@ fn kind_name(kind: ItemKind) -> &'static [u8]
 
 /// Whether two items are of one kind and have the same numbers and bytes.
 pub(crate) fn is_alike(left: ItemView<'_>, right: ItemView<'_>) -> bool
-    ensures { result ≡ is_alike (lent_seen left.entry) (lent_seen right.entry) }
+    ensures { result ≡ is_alike (shown left.entry) (shown right.entry) }
 {
     kind_name(left.kind) == kind_name(right.kind)
         && left.a == right.a

@@ -1,6 +1,6 @@
 use Rattle.std.proofs.Common.{◌≡◌, ◌++◌, take}
 use Rattle.std.specs.List.{flat_map}
-use Rattle.item_views.specs.Views.{page_text}
+use Rattle.feed_log.specs.Views.{page_text}
 use Rattle.feed_boot.proofs.record.push_pages.Given as goal
 
 abbrev pub invariant-loop-place : goal.invariant-loop-place

@@ -5,7 +5,7 @@ use Rattle.std.specs.Prelude.{slice_get}
 use Rattle.boot_image.specs.ImageValue.{ImageValue, ProgramValue}
 use Rattle.aegis_limits.specs.VersionLimits.{version_number}
 use Rattle.world_model.specs.Item.{Item}
-use Rattle.item_views.specs.Views.{IsFit}
+use Rattle.feed_log.specs.Views.{IsFit}
 use Rattle.feed_boot.proofs.Pages.{record_there, there_below, told_there}
 use Rattle.feed_boot.proofs.record.tell_record.Goals as goal
 

@@ -1,5 +1,5 @@
 use Rattle.std.proofs.Common.{◌≡◌, IfOk, Result, Ok, Err, ap, subst, sym}
-use Rattle.told_run.specs.Progress.{Progress}
+use Rattle.feed_log.specs.Progress.{Progress}
 use Rattle.twin_run.specs.Course.{IsDifference, difference_at, front}
 use Rattle.twin_run.proofs.Fronts.{is_difference}
 use Rattle.twin_run.proofs.comparison.first_difference.Goals as goal

@@ -1,7 +1,7 @@
 use Rattle.std.proofs.Common.{◌≡◌, IfOk, Result, Ok, Err, ap, subst, sym}
 use Rattle.run_model.specs.Run.{world_after}
 use Rattle.run_report.specs.Report.{env_text}
-use Rattle.told_run.specs.Progress.{Progress}
+use Rattle.feed_log.specs.Progress.{Progress}
 use Rattle.twin_run.specs.Course.{IsDifference, settled}
 use Rattle.twin_run.specs.Law.{IsSameWhereEqual}
 use Rattle.twin_run.proofs.Fronts.{same_where_equal}

@@ -1,5 +1,5 @@
 use Rattle.std.proofs.Common.{inl}
-use Rattle.told_run.specs.Progress.{unread}
+use Rattle.feed_log.specs.Progress.{unread}
 use Rattle.twin_run.proofs.Runs.{not_empty}
 use Rattle.twin_run.proofs.course.come_to_item.Goals as goal
 

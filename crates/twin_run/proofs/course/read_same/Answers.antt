@@ -1,6 +1,6 @@
 use Rattle.std.proofs.Common.{ℕ, ◌≡◌, ◌<◌, ◌≤◌, ◌+◌, ◌-◌, ap, arith, subst, sym}
 use Rattle.aegis_limits.specs.Limits.{most_ticks}
-use Rattle.told_run.specs.Progress.{Progress}
+use Rattle.feed_log.specs.Progress.{Progress}
 use Rattle.twin_run.specs.Course.{AreSameBelow, Reads, items_within}
 use Rattle.twin_run.proofs.Fronts.{few_left, reads_more, reads_on, same_more}
 use Rattle.twin_run.proofs.course.read_same.Goals as goal

@@ -1,5 +1,6 @@
 use Rattle.std.proofs.Common.{◌∙◌, subst, sym}
-use Rattle.told_run.specs.Progress.{IsFirst, lent_seen, unread}
+use Rattle.feed_log.specs.Log.{shown}
+use Rattle.feed_log.specs.Progress.{IsFirst, unread}
 use Rattle.twin_run.proofs.Runs.{apart_unlike, next_same, none_same}
 use Rattle.twin_run.proofs.course.same_next.Goals as goal
 
@@ -8,7 +9,7 @@ returns-in-Some-Some g c =
     let p = g.R.ToldRun.progress c.args.left.now in
     let q = g.R.ToldRun.progress c.args.right.now in
     let both = c.in-Some-Some in
-    next_same p q (lent_seen both.item) (lent_seen both.other) both.count both.other_count c.law_views.ensures
+    next_same p q (shown both.item) (shown both.other) both.count both.other_count c.law_views.ensures
     (subst (IsFirst (unread p)) both.is-0 c.first.ensures) (subst (IsFirst (unread q)) both.is-1 c.first-2.ensures)
     (sym c.is_alike.ensures ∙ c.if-is_alike.true) c.min.result c.min.ensures
 
@@ -18,6 +19,6 @@ returns-in_default g c =
     let q = g.R.ToldRun.progress c.args.right.now in
     let both = c.in-Some-Some in
     none_same p q
-    (apart_unlike p q (lent_seen both.item) (lent_seen both.other) both.count both.other_count
+    (apart_unlike p q (shown both.item) (shown both.other) both.count both.other_count
     (subst (IsFirst (unread p)) both.is-0 c.first.ensures) (subst (IsFirst (unread q)) both.is-1 c.first-2.ensures)
     (sym c.is_alike.ensures ∙ c.if-is_alike.false))

@@ -3,7 +3,7 @@ use Rattle.std.proofs.Common.{true}
 use Rattle.world_model.specs.World.{World}
 use Rattle.run_model.specs.Run.{world_after}
 use Rattle.twin_run.specs.Answer.{is_there}
-use Rattle.told_run.specs.Progress.{IsOver, Passed, Progress, ended}
+use Rattle.feed_log.specs.Progress.{IsOver, Passed, Progress, ended}
 use Rattle.twin_run.specs.Course.{FellShort}
 use Rattle.twin_run.proofs.Presence.{is_absent, is_present}
 use Rattle.twin_run.proofs.Runs.{absent_short, end_reached, over_short, short_same}

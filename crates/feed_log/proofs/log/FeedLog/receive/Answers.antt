@@ -2,7 +2,7 @@
 use Rattle.std.proofs.Common.{◌≡◌, ◌++◌, List, Bool, drop, replicate, sym, ◌∙◌, ap}
 use Rattle.std.specs.Prelude.{◌||◌}
 use Rattle.std.specs.List.{list_any}
-use Rattle.item_views.specs.Views.{ItemSeen}
+use Rattle.feed_log.specs.Views.{ItemSeen}
 use Rattle.feed_log.specs.Log.{begins_seen, shown}
 use Rattle.feed_log.proofs.Runs.{begun, received}
 use Rattle.feed_log.proofs.log.FeedLog.receive.Goals as goal

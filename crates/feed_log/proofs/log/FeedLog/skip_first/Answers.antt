@@ -1,7 +1,7 @@
 -- Of the first entry some items are read.
 use Rattle.std.proofs.Common.{List, drop, slice_set, refl, ◌∙◌, ap, arith}
 use Rattle.std.specs.List.{flat_map}
-use Rattle.item_views.specs.Views.{ItemSeen}
+use Rattle.feed_log.specs.Views.{ItemSeen}
 use Rattle.feed_log.specs.Log.{Run, run_items}
 use Rattle.feed_log.proofs.Runs.{lowered}
 use Rattle.feed_log.proofs.log.FeedLog.skip_first.Goals as goal

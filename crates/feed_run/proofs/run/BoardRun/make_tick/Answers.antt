@@ -3,7 +3,7 @@ use Rattle.std.proofs.Common.{◌≡◌, ◌+◌, ◌-◌, ℕ, List, length, tr
 use Rattle.external_event.specs.Order.{are_in_order}
 use Rattle.world_model.specs.Event.{schedule_of}
 use Rattle.aegis_tick.specs.Course.{AreLater}
-use Rattle.item_views.specs.Views.{ItemSeen}
+use Rattle.feed_log.specs.Views.{ItemSeen}
 use Rattle.run_model.specs.Run.{feed}
 use Rattle.feed_run.specs.Whole.{IsBetween, progress_of, system_of}
 use Rattle.feed_run.proofs.Ticked.{between_on, ends_on, one_at_most, read_on, slices_few}

@@ -9,8 +9,8 @@ use Rattle.world_model.specs.Answer.{verdict_code, verdict_value}
 use Rattle.world_model.specs.Call.{any}
 use Rattle.world_model.specs.Item.{Item, Boot, Step, Start, End, Transfer, Killed, Answer, Gained, Lost, Left, Packet, Line, Asked, Taken}
 use Rattle.world_model.specs.Page.{KeptPage}
-use Rattle.item_views.specs.declared.view.ItemKind.{ItemKind}
-use Rattle.item_views.specs.declared.view.ItemKind.TheVariants as kind
+use Rattle.feed_log.specs.declared.view.ItemKind.{ItemKind}
+use Rattle.feed_log.specs.declared.view.ItemKind.TheVariants as kind
 
 pub record ItemSeen : Type 0 where
   pub kind : ItemKind

@@ -21,9 +21,9 @@ use Rattle.world_model.specs.Code.{code_number}
 use Rattle.world_model.specs.Call.{any}
 use Rattle.world_model.specs.Item.{Item, Boot, Step, Start, End, Transfer, Killed, Answer, Gained, Lost, Left, Packet, Line, Asked, Taken}
 use Rattle.world_model.specs.Page.{KeptPage}
-use Rattle.item_views.specs.declared.view.ItemKind.{ItemKind}
-use Rattle.item_views.specs.declared.view.ItemKind.TheVariants as kind
-use Rattle.item_views.specs.Views.{AlikeWhereShownAlike, ArePages, AreWords, AreRegistersFit, IsFit, IsRecordFit, IsWord, ItemSeen, item_seen, mode_number, page_text, record_text, transfer_text}
+use Rattle.feed_log.specs.declared.view.ItemKind.{ItemKind}
+use Rattle.feed_log.specs.declared.view.ItemKind.TheVariants as kind
+use Rattle.feed_log.specs.Views.{AlikeWhereShownAlike, ArePages, AreWords, AreRegistersFit, IsFit, IsRecordFit, IsWord, ItemSeen, item_seen, mode_number, page_text, record_text, transfer_text}
 
 -- lists in two parts, of which the first are as long
 halves : (xs ys us vs : List ℕ) → length xs ≡ length ys → xs ++ us ≡ ys ++ vs → (xs ≡ ys) × (us ≡ vs)

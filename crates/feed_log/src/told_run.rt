@@ -1,10 +1,10 @@
 //! A run and what is told of it.
 ghost use Rattle.std.specs.Prelude.{◌≡◌, ◌≤◌, ◌+◌, IfOk, OnOk, length};
 ghost use Rattle.run_model.specs.Run.{world_after};
-ghost use Rattle.told_run.specs.Progress.{Passed, Progress, IsFirst, ended, told, unread};
+ghost use Rattle.feed_log.specs.Progress.{Passed, Progress, IsFirst, ended, told, unread};
 
+use crate::view::ItemView;
 use aegis_limits::OutOfMemory;
-use item_views::ItemView;
 use world_model::WorldView;
 
 /// A run of which the items of one environment are told: its record at boot, and then what each tick gives it, in their

@@ -1,5 +1,5 @@
 //! Items by their views.
-ghost use Rattle.item_views.specs.Views.{AlikeWhereShownAlike};
+ghost use Rattle.feed_log.specs.Views.{AlikeWhereShownAlike};
 
 /// Items that are shown alike are alike, if numbers that are shown as words are words, names have eight bytes and pages
 /// 4,096, and no backup has the number that stands for none.

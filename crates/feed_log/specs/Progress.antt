@@ -5,8 +5,9 @@ use Rattle.world_model.specs.Book.{is_idle_book}
 use Rattle.world_model.specs.Item.{Item}
 use Rattle.run_model.specs.Run.{System, feed, world_after}
 use Rattle.run_model.specs.Slices.{slices}
-use Rattle.item_views.specs.declared.view.ItemView.{ItemView}
-use Rattle.item_views.specs.Views.{IsFit, ItemSeen, item_seen}
+use Rattle.feed_log.specs.declared.view.ItemView.{ItemView}
+use Rattle.feed_log.specs.Views.{IsFit, ItemSeen, item_seen}
+use Rattle.feed_log.specs.Log.{shown}
 
 -- A run of a system for so many ticks, and how many of the items were read that it gave an environment in them.
 pub record Progress : Type 0 where
@@ -31,10 +32,6 @@ unread p = drop p.read (told p)
 abbrev pub ended : Progress → ℕ
 ended p = slices p.system p.env p.ticks
 
--- an item as it is lent
-abbrev pub lent_seen : ItemView → ItemSeen
-lent_seen v = record { kind = v.kind; a = v.a; b = v.b; bytes = v.bytes.now }
-
 -- So often, and at least once, an item that is shown so stands at the front of a list.
 pub record BeginsWith (items : List Item) (seen : ItemSeen) (count : ℕ) : Type 0 where
   pub item : Item
@@ -47,7 +44,7 @@ pub record BeginsWith (items : List Item) (seen : ItemSeen) (count : ℕ) : Type
 -- the item at the front of a list, if it has one, with how often it stands there
 abbrev pub IsFirst : List Item → Option (ItemView × ℕ) → Type 0
 IsFirst items None = items ≡ []
-IsFirst items (Some first) = BeginsWith items (lent_seen first.0) first.1
+IsFirst items (Some first) = BeginsWith items (shown first.0) first.1
 
 -- A run can go no further: it has had as many ticks as a run may have, or its board is idle.
 abbrev pub IsOver : Progress → Type 0
