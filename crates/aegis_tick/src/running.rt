@@ -12,7 +12,7 @@ ghost use Rattle.world_model.specs.Book.{is_idle_book};
 ghost use Rattle.world_model.specs.Event.{happen, schedule_of};
 ghost use Rattle.world_model.specs.Tick.{tick_step};
 ghost use Rattle.world_model.specs.World.{after};
-ghost use Rattle.fills_law.specs.Fills.{AreFew};
+ghost use Rattle.tlb_course.specs.Fills.{AreFew};
 ghost use Rattle.run_model.specs.Excess.{IsAccounted};
 ghost use Rattle.run_model.specs.Run.{world_after_ticks, end_of_run};
 ghost use Rattle.tlb_course.specs.Course.{cache_after_ticks, cache_ticked};
@@ -24,11 +24,10 @@ use crate::laws::law_halves;
 use aegis_calls::{Board, SERVE_ROWS, STEP_ROWS, TURN_ROWS};
 use aegis_limits::OutOfMemory;
 use external_event::Event;
-use fills_law::law_fills;
 use kernel_journal::RunEnd;
 use r3k_machine::Entry;
 use run_model::law_accounts;
-use tlb_course::law_further;
+use tlb_course::{law_fills, law_further};
 use world_model::WorldView;
 
 /// Rows enough for a tick, with its deadlines, its turn, its step and the timer; and for an event.

@@ -3,7 +3,7 @@ use Rattle.std.proofs.Common.{sym, ap, subst, ◌∙◌}
 use Rattle.board_model.specs.Showing.{world_of}
 use Rattle.world_model.specs.World.{World}
 use Rattle.tlb_model.specs.Cache.{Cache}
-use Rattle.fills_law.specs.Fills.{AreFew}
+use Rattle.tlb_course.specs.Fills.{AreFew}
 use Rattle.tlb_course.specs.Course.{cache_finished}
 use Rattle.aegis_tick.specs.Halves.{first_half, second_half}
 use Rattle.aegis_tick.proofs.running.tick.Goals as goal

@@ -13,7 +13,7 @@ use Rattle.world_model.specs.Solo.{Solo}
 use Rattle.world_model.specs.Step.{step_alone}
 use Rattle.world_model.specs.Tick.{served, turn}
 use Rattle.world_model.specs.World.{World}
-use Rattle.fills_law.specs.Fills.{AreFew, TicksFillFew, miss_counted, refills_counted}
+use Rattle.tlb_course.specs.Fills.{AreFew, TicksFillFew, miss_counted, refills_counted}
 
 -- at most so many refills are counted
 record Counts (n e : ℕ) (before after : List Fills) : Type 0 where
