@@ -4,7 +4,7 @@ ghost use Rattle.std.specs.Option.{option_map};
 ghost use Rattle.mips_exec.specs.Step.{outcome_of, write_after};
 ghost use Rattle.guest_memory.specs.Look.{guest_step};
 ghost use Rattle.guest_memory.specs.Space.{lookup};
-ghost use Rattle.guest_peek.specs.Noted.{write_seen};
+ghost use Rattle.guest_memory.specs.Peek.{write_seen};
 ghost use Rattle.world_model.specs.Book.{running};
 ghost use Rattle.world_model.specs.Tick.{act_now};
 ghost use Rattle.board_model.specs.Showing.{world_of};
@@ -16,8 +16,7 @@ use call_verdicts::CallView;
 use env_frames::Context;
 use feed_telling::{NextAct, Stored};
 use frame_store::Frames;
-use guest_memory::{PAGE_BYTES, Space};
-use guest_peek::{Written, peek};
+use guest_memory::{PAGE_BYTES, Space, Written, peek};
 use mips_exec::{Cpu, Outcome};
 use world_model::EXIT;
 

@@ -2,13 +2,18 @@
 //!
 //! A VPN leads to the page of its guaranteed mapping, else of its binding, where physical memory has that
 //! page; else the access is a miss. `locate` finds the page of an access, or what the access raises, and `guest_range`
-//! the bytes that a kernel call names.
+//! the bytes that a kernel call names. `peek` says how the next step of an environment ends and what it would store,
+//! without making it.
 #![tactic(auto)]
 
+mod next_step;
+mod peek_bus;
 mod place;
 mod range;
 mod space;
 
+pub use next_step::peek;
+pub use peek_bus::Written;
 pub use place::{PAGE_BYTES, bytes_from, locate};
 pub use range::guest_range;
 pub use space::Space;

@@ -6,8 +6,8 @@ use Rattle.mips_exec.specs.Step.{Answers}
 use Rattle.world_model.specs.Page.{answers_by}
 use Rattle.guest_memory.specs.Look.{look}
 use Rattle.guest_memory.specs.Space.{SpaceValue, lookup}
-use Rattle.guest_peek.specs.declared.bus.Written.{Written}
-use Rattle.guest_peek.specs.declared.bus.PeekBus.{PeekBus}
+use Rattle.guest_memory.specs.declared.peek_bus.Written.{Written}
+use Rattle.guest_memory.specs.declared.peek_bus.PeekBus.{PeekBus}
 
 -- what an environment's memory answers
 abbrev pub seen_through : List (List ℕ) → SpaceValue → Answers

@@ -4,11 +4,11 @@ ghost use Rattle.std.specs.Option.{option_map};
 ghost use Rattle.mips_exec.specs.Step.{outcome_of, write_after};
 ghost use Rattle.guest_memory.specs.Look.{guest_step};
 ghost use Rattle.guest_memory.specs.Space.{lookup};
-ghost use Rattle.guest_peek.specs.Noted.{write_seen};
+ghost use Rattle.guest_memory.specs.Peek.{write_seen};
 
-use crate::bus::{PeekBus, Written};
+use crate::peek_bus::{PeekBus, Written};
+use crate::space::Space;
 use frame_store::Frames;
-use guest_memory::Space;
 use mips_exec::{Cpu, Outcome};
 use mips_step::step_user;
 

@@ -2,9 +2,10 @@
 ghost use Rattle.std.specs.Prelude.{◌≡◌, ◌≢◌, ◌<◌, ◌≤◌, length};
 ghost use Rattle.byteorder.specs.Endian.{little_number};
 
+use crate::place::{bytes_from, locate};
+use crate::space::Space;
 use byteorder::{ByteOrder, LittleEndian};
 use frame_store::Frames;
-use guest_memory::{Space, bytes_from, locate};
 use mips_exec::Exc;
 use mips_step::Bus;
 use world_model::Purpose;
@@ -30,7 +31,7 @@ impl Bus for PeekBus<'_> {
     ghost use Rattle.world_model.specs.Page.{answers_by};
     ghost use Rattle.guest_memory.specs.Look.{look};
     ghost use Rattle.guest_memory.specs.Space.{lookup};
-    ghost use Rattle.guest_peek.specs.Noted.{IsKept, IsNoted, seen_through};
+    ghost use Rattle.guest_memory.specs.Peek.{IsKept, IsNoted, seen_through};
 
     ghost answers = { λ b. seen_through b.frames.now b.space.now };
 
