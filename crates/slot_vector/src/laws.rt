@@ -1,32 +1,15 @@
-//! The laws of turns: what comes next, again and again, makes the whole turn that the model tells at once.
+//! The law of turns: what comes next, again and again, makes the whole turn that the model tells at once.
 ghost use Rattle.slot_vector.specs.Laws.{ExcessSetsOne, ForfeitComesFirst, ForfeitLowersOwed, IdleIsNobodys, RunEndsTurn, RunsNobodyWhereNoneHeld};
 
-/// A forfeit comes first in the turn, and the rest of the turn is that of the vector after it.
-pub fn law_pay()
-    ensures { ForfeitComesFirst }
-{}
-
-/// With each forfeit the environments owe one quantum less all together, so that a turn ends.
-pub fn law_pay_lowers()
-    ensures { ForfeitLowersOwed }
-{}
-
-/// A run ends the turn, and nothing is forfeited before it.
-pub fn law_run()
-    ensures { RunEndsTurn }
-{}
-
-/// Where nobody is next, the turn is nobody's.
-pub fn law_idle()
-    ensures { IdleIsNobodys }
-{}
-
-/// The turn runs nobody exactly where no slot is held, whatever the holders owe.
-pub fn law_nobody()
-    ensures { RunsNobodyWhereNoneHeld }
-{}
-
-/// Another excess of one environment changes that of no other.
-pub fn law_excess_set()
-    ensures { ExcessSetsOne }
+/// What comes next, again and again, makes the whole turn. A forfeit comes first in it, and the rest is the turn of the
+/// vector after it; with each forfeit the environments owe one quantum less all together, so that a turn ends. A run
+/// ends the turn, and nothing is forfeited before it. Where nobody is next, the turn is nobody's: it runs nobody exactly
+/// where no slot is held. Another excess of one environment changes that of no other.
+pub fn law_turns()
+    ensures pay { ForfeitComesFirst }
+    ensures lowers { ForfeitLowersOwed }
+    ensures run { RunEndsTurn }
+    ensures idle { IdleIsNobodys }
+    ensures nobody { RunsNobodyWhereNoneHeld }
+    ensures excess { ExcessSetsOne }
 {}

@@ -13,7 +13,7 @@ mod search;
 mod slots;
 mod turn;
 
-pub use laws::{law_excess_set, law_idle, law_nobody, law_pay, law_pay_lowers, law_run};
+pub use laws::law_turns;
 pub use slots::Slots;
 pub use turn::NextTurn;
 pub use world_model::Timer;

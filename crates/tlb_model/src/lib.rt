@@ -7,4 +7,4 @@ mod fills;
 mod laws;
 
 pub use fills::Fills;
-pub use laws::{law_emptied, law_grown, law_refilled, law_row_words, law_rows};
+pub use laws::law_coherence;
