@@ -20,6 +20,8 @@ NATIVE, PORTABLE = "x86_64-unknown-linux-gnu", "wasm64-unknown-unknown"
 # What of the module's text is of a processor: the layout of its memory, its name, and attributes of its functions.
 LAYOUT = "e-m:e-p:64:64-p10:8:8-p20:8:8-i64:64-i128:128-n32:64-S128"
 OF_A_PROCESSOR = re.compile(r' "(?:probe-stack|stack-probe-size|target-cpu|target-features|tune-cpu)"="[^"]*"')
+# The instructions that the module may have: those that each engine of today takes.
+MODULE_WORDS = ("-mcpu=lime1",)
 # A table of 64-bit addresses, which is empty, and the same table of 32-bit ones: the lowering takes no other.
 TABLE, LOWERED_TABLE = bytes((4, 5, 1, 0x70, 5, 1, 1)), bytes((4, 5, 1, 0x70, 1, 1, 1))
 LOWERING = ("--enable-memory64", "--enable-bulk-memory", "--enable-sign-ext", "--enable-mutable-globals", "--enable-nontrapping-float-to-int",
@@ -108,8 +110,10 @@ class Folder:
             told = portable(it.read())
         with open(text, "w", encoding="utf-8") as it:
             it.write(told)
-        self.compile(PORTABLE, "-mcpu=lime1", "-O3", "-mllvm", "-expand-div-rem-bits=64", "-ffunction-sections", "-fdata-sections", "-x", "ir", text, "-o", program)
-        self.compile(PORTABLE, "-mcpu=lime1", "-O2", "-std=c11", "-ffreestanding", "-Wno-incompatible-library-redeclaration", f"{ROOT}/runtime/module.c", "-o", below)
+        self.compile(PORTABLE, *MODULE_WORDS, "-O3", "-mllvm", "-expand-div-rem-bits=64", "-ffunction-sections", "-fdata-sections",
+                     "-x", "ir", text, "-o", program)
+        self.compile(PORTABLE, *MODULE_WORDS, "-O2", "-std=c11", "-ffreestanding", "-Wno-incompatible-library-redeclaration",
+                     f"{ROOT}/runtime/module.c", "-o", below)
         run("llvm-ar", "rcs", f"{room}/both.a", program, below, tool=self.clang)
         run(f"{self.kit}/bin/rattle-link", "--target", PORTABLE, "--toolchain", f"{self.kit}/toolchain", "-o", f"{room}/wide.wasm", f"{room}/both.a")
         lower(f"{room}/wide.wasm", to)
