@@ -1,18 +1,20 @@
-"""A recording as one page of HTML, which needs no network: source, registers, calls and console at each step, with a slider and keys."""
+"""A recording as one page of HTML, which needs no network: source, registers, memory, calls and console at each step, with a slider and
+keys. Script, style and markup are those of web/, which the page for browsers has too (docs/WEB.md)."""
 
 from __future__ import annotations
 
 import functools
 import html
 import json
-import os
-from typing import Any, Dict, List, Tuple
+import re
+from typing import Any, Dict, List, Optional, Tuple
 
-from knowledge import NAMES, Change
+from knowledge import IS_LOST, IS_VAGUE, NAMES, Change, PageKey
 from places import Places
 from programs import ROOT, Program
 from recording import Recording, Step
 from shown import shown
+from source import read_statement
 from step_lines import console_at, ending, step_line
 from stepper import Stepper
 
@@ -24,11 +26,36 @@ def registers_of(changes: List[Change]) -> List[Any]:
     return [part for key, value in {it.key: it.new for it in changes if isinstance(it.key, int)}.items() for part in (key, value)]
 
 
+def memory_of(changes: List[Change]) -> List[List[Any]]:
+    """What changes of memory: a page with a place and the bytes there as digits, a binding (none where it ends), and what others may
+    store to or isn't known from here on."""
+    found: List[List[Any]] = []
+    for key, _, new in changes:
+        if isinstance(key, tuple) and key[0] == "byte":
+            page, place, digits = page_name(key[1]), key[2], "??" if new is None else f"{new:02x}"
+            if found and found[-1][0] == page and found[-1][1] + len(found[-1][2]) // 2 == place:
+                found[-1][2] += digits
+            else:
+                found.append([page, place, digits])
+        elif isinstance(key, tuple) and key[0] == "row":
+            found.append(["row", key[1], *([new.vpn, page_name(new.page)] if new else [])])
+        elif isinstance(key, tuple) and key[0] == "shared":
+            found.append(["shared", page_name(key[1])])
+        elif key in (IS_VAGUE, IS_LOST):
+            found.append([key])
+    return found
+
+
+def page_name(page: Optional[PageKey]) -> Optional[str]:
+    """A guaranteed page by its VPN, one that was allocated by its number and the tick; none for another's."""
+    return None if page is None else f"v{page[1]}" if page[0] == "vpn" else f"p{page[1]}@{page[2]}"
+
+
 class Data:
     """What the page's script is given."""
 
-    def __init__(self, recording: Recording, places: Places, program: Program):
-        self.recording, self.places = recording, places
+    def __init__(self, recording: Recording, places: Places, program: Program, title: str):
+        self.recording, self.places, self.title = recording, places, title
         self.stepper = Stepper(recording, places)
         self.files: Dict[str, int] = {}
         self.spots: Dict[Tuple[int, str], int] = {}
@@ -38,14 +65,25 @@ class Data:
         self.lengths: Dict[int, int] = {}
 
     def spot(self, step: Step) -> int:
-        """An instruction, by its address: its label, its file, its line and its text."""
+        """An instruction, by its address: its label, its file, its line and its text; of `li` and `la` the statement, and which of its
+        two instructions this is."""
         key = (step.row.pc, step.row.text)
         if key not in self.spots:
             self.spots[key] = len(self.rows)
             line = self.places.lines.get(step.row.pc)
             file, number = (self.files.setdefault(line.file, len(self.files)), line.number) if line else (0, self.at_listing.get(step.row.pc, 0))
-            self.rows.append([f"{step.row.pc:08x}", self.places.name(step.row.pc), file, number if line or self.listing else 0, shown(step.row.text)])
+            self.rows.append([f"{step.row.pc:08x}", self.places.name(step.row.pc), file, number if line or self.listing else 0, shown(step.row.text),
+                              *self.of_two(step.row.pc)])
         return self.spots[key]
+
+    def of_two(self, address: int) -> List[Any]:
+        """The statement of an instruction, and which of its two this is, where it has two."""
+        lines = self.places.lines
+        line = None if self.places.symbols else lines.get(address)
+        said = read_statement(0, line.text) if line else None
+        if said is None or said.operation not in ("li", "la"):
+            return []
+        return [shown(" ".join([said.operation, ", ".join(said.operands)])), 2 if lines.get(address - 4) == line else 1]
 
     def console(self, length: int) -> int:
         """The characters of so many bytes of the console."""
@@ -54,31 +92,35 @@ class Data:
         return self.lengths[length]
 
     def step(self, place: int, step: Step) -> List[Any]:
-        """A step: tick, instruction, registers that it changed, those that the kernel set, characters of the console, and what it tells."""
+        """A step: tick, instruction, registers that it changed, those that the kernel set, characters of the console, what it tells, whether
+        it is a call or the end, whether that is bad, and what changed of memory, where something did."""
         self.stepper.go(place)
         stores = any(isinstance(it.key, tuple) and it.key[0] == "byte" for it in step.own)
         told = step_line(step, self.stepper.known, self.places).partition(" -> ")[2] if step.row.is_dead or stores else ""
+        memory = memory_of(step.kernel + step.own)
         if step.answered:
             told = f"{step.asked} = {step.answered}"
         return [step.row.tick, self.spot(step), registers_of(step.own), registers_of(step.kernel), self.console(step.console), shown(told),
-                int(bool(step.asked or step.row.is_dead)), int(bool(step.code))]
+                int(bool(step.asked or step.row.is_dead)), int(bool(step.code)), *([memory] if memory else [])]
 
     def all(self) -> Dict[str, Any]:
         steps = [self.step(place, step) for place, step in enumerate(self.recording.steps, 1)]
         sources = {name: [shown(line) for line in self.places.sources.get(name, [])] for name in self.files}
         if self.listing:
             sources = {"instructions": self.listing}
-        environment, head = self.stepper.environment, self.recording.report.head
-        return {"names": NAMES, "first": self.recording.boot().registers, "spots": self.rows, "steps": steps,
+        environment, head, boot = self.stepper.environment, self.recording.report.head, self.recording.boot()
+        pages = {f"v{vpn}": page.rstrip(b"\0").hex() for vpn, page in sorted(boot.boot.pages.items())}
+        return {"title": self.title, "labels": self.places.labels, "memory": {"rows": boot.rows, "pages": pages}, "names": NAMES, "first": boot.registers, "spots": self.rows, "steps": steps,
                 "files": [[name, lines] for name, lines in sources.items()], "console": console_at(environment, environment.console_bytes),
                 "end": ending(environment, head, self.recording.steps)[3:]}
 
 
 def page(recording: Recording, places: Places, program: Program, title: str) -> str:
     """The page."""
-    data = json.dumps(Data(recording, places, program).all(), separators=(",", ":")).replace("</", "<\\/")
-    parts = {"STYLE": part("step.css"), "BODY": part("step.html"), "SCRIPT": part("step.js"),
-             "TITLE": html.escape(f"{title}, step by step"), "DATA": data}
+    shown_title = f"{title}, step by step"
+    data = json.dumps(Data(recording, places, program, shown_title).all(), separators=(",", ":")).replace("</", "<\\/")
+    parts = {"STYLE": part("step.css"), "BODY": part("step.html"), "SCRIPT": script(),
+             "TITLE": html.escape(shown_title), "DATA": data}
     return functools.reduce(lambda text, it: text.replace(f"@{it[0]}@", it[1]), parts.items(), PAGE)
 
 
@@ -88,6 +130,16 @@ def part(name: str) -> str:
         return file.read()
 
 
+def script() -> str:
+    """The stepper's modules as one script, which shows the page's data."""
+    modules = re.sub(r"(?m)^import .*;\n|^export ", "", part("memory.js") + part("step.js"))
+    return f'"use strict";\n{modules}{START}'
+
+
+START = """
+const go = showSteps(JSON.parse(document.getElementById("data").textContent)), wanted = /^#(\\d+)$/.exec(location.hash);
+if (wanted) go(Number(wanted[1]));
+"""
 PAGE = """<!DOCTYPE html>
 <html lang="en">
 <head>

@@ -1,82 +1,246 @@
-"use strict";
-const data = JSON.parse(document.getElementById("data").textContent), steps = data.steps, every = 256;
-const at = id => document.getElementById(id);
-const make = (tag, name, text) => { const it = document.createElement(tag); it.className = name; it.textContent = text; return it; };
-const put = (regs, list) => { for (let i = 0; i < list.length; i += 2) regs[list[i]] = list[i + 1]; };
+// The stepper: a run with a slider, its source, registers, memory, calls and console. tools/step --html makes a page of it alone, and
+// the page for browsers shows it over its programs. docs/STEPPING.md has what stands in its data.
+
+import { StepMemory } from "./memory.js";
+
+const EVERY = 256; // steps between two kept sets of registers
+const TICK = 0, SPOT = 1, OWN = 2, KERNEL = 3, CONSOLE = 4, TOLD = 5, IS_CALL = 6, IS_BAD = 7; // places in a step
+const MEMORY_ROWS = 32;
+const at = name => document.getElementById(`step-${name}`);
+
+function make(tag, name, text) {
+  const it = document.createElement(tag);
+  it.className = name;
+  it.textContent = text;
+  return it;
+}
+
+const put = (registers, list) => { for (let i = 0; i < list.length; i += 2) registers[list[i]] = list[i + 1]; };
+const names = (list, register) => list.some((it, i) => i % 2 === 0 && it === register);
 const hex = value => value === null ? "?" : (value >>> 0).toString(16).padStart(8, "0");
-const kept = [];
-{ const regs = data.first.slice();
-  steps.forEach((it, i) => { if (i % every === 0) kept.push(regs.slice()); put(regs, it[3]); put(regs, it[2]); });
-  if (steps.length % every === 0) kept.push(regs.slice()); }
-function registers(done) {
-  const from = Math.floor(done / every), regs = kept[from].slice();
-  for (let i = from * every; i < done; i++) { put(regs, steps[i][3]); put(regs, steps[i][2]); }
-  return regs;
+
+/** Scrolls a pane so far that a line of it is seen. */
+function reveal(pane, line, part) {
+  const top = line.offsetTop - pane.offsetTop;
+  if (top < pane.scrollTop + 4 || top > pane.scrollTop + pane.clientHeight - 40) pane.scrollTop = top - pane.clientHeight / part;
 }
-let done = steps.length ? 1 : 0, file = -1;
-const cells = data.names.map((name, i) => { const it = make("div", "", ""); it.append(make("i", "", name), make("span", "", ""));
-  it.title = "to its next change"; it.onclick = event => seek(step => changes(step, i), event.shiftKey); at("regs").append(it); return it; });
-const changes = (step, register) => [2, 3].some(part => step[part].some((it, i) => i % 2 === 0 && it === register));
-const calls = [];
-steps.forEach((it, i) => { if (it[6]) { const line = make("div", "call" + (it[7] ? " bad" : ""), it[0] + "  " + it[5]);
-  line.onclick = () => go(i + 1); at("calls").append(line); calls.push([i + 1, line]); } });
-const ran = data.files.map(() => new Set());
-data.spots.forEach(it => { if (it[3]) ran[it[2]].add(it[3]); });
-let lines = [];
-function show(number) {
-  if (file === number || !data.files[number]) return;
-  file = number; lines = []; at("file").textContent = data.files[number][0]; at("source").replaceChildren();
-  data.files[number][1].forEach((text, i) => {
-    const line = make("div", "line" + (ran[number].has(i + 1) ? " ran" : ""), ""); line.append(make("b", "", i + 1), text);
-    line.onclick = event => seek(step => { const spot = data.spots[step[1]]; return spot[2] === number && spot[3] === i + 1; }, event.shiftKey);
-    at("source").append(line); lines.push(line); });
+
+/** What is shown of a recording. */
+class StepView {
+  constructor(data) {
+    Object.assign(this, { data, steps: data.steps, kept: [], calls: [], lines: [], file: -1, marked: null });
+    this.memory = new StepMemory(data.memory, data.steps);
+    this.done = this.steps.length ? 1 : 0;
+    this.keep();
+    for (const name of ["regs", "calls", "source"]) at(name).replaceChildren();
+    this.cells = data.names.map((name, i) => this.cell(name, i));
+    this.steps.forEach((it, i) => { if (it[IS_CALL]) this.addCall(it, i + 1); });
+    this.ran = data.files.map(() => new Set());
+    for (const it of data.spots) if (it[3]) this.ran[it[2]].add(it[3]);
+    at("title").textContent = data.title;
+    at("slide").max = this.steps.length;
+    this.show(0);
+  }
+
+  /** Keeps the registers at some places, so that those at any other are found soon. */
+  keep() {
+    const registers = this.data.first.slice();
+    this.steps.forEach((it, i) => {
+      if (i % EVERY === 0) this.kept.push(registers.slice());
+      put(registers, it[KERNEL]);
+      put(registers, it[OWN]);
+    });
+    if (this.steps.length % EVERY === 0) this.kept.push(registers.slice());
+  }
+
+  registers(done) {
+    const from = Math.floor(done / EVERY), registers = this.kept[from].slice();
+    for (let i = from * EVERY; i < done; i++) {
+      put(registers, this.steps[i][KERNEL]);
+      put(registers, this.steps[i][OWN]);
+    }
+    return registers;
+  }
+
+  // What is made once
+
+  cell(name, i) {
+    const it = make("div", "", "");
+    it.append(make("i", "", name), make("span", "", ""), make("em", "", ""));
+    it.title = "to its next change";
+    it.onclick = event => this.seek(step => names(step[OWN], i) || names(step[KERNEL], i), event.shiftKey);
+    at("regs").append(it);
+    return it;
+  }
+
+  addCall(step, place) {
+    const line = make("div", "call" + (step[IS_BAD] ? " bad" : ""), `${step[TICK]}  ${step[TOLD]}`);
+    line.onclick = () => this.go(place);
+    at("calls").append(line);
+    this.calls.push([place, line]);
+  }
+
+  /** Shows a file of the source. */
+  show(number) {
+    if (this.file === number || !this.data.files[number]) return;
+    const [name, texts] = this.data.files[number];
+    this.file = number;
+    this.lines = texts.map((text, i) => {
+      const line = make("div", "line" + (this.ran[number].has(i + 1) ? " ran" : ""), "");
+      line.append(make("b", "", i + 1), text);
+      line.onclick = event => this.seek(step => {
+        const spot = this.data.spots[step[SPOT]];
+        return spot[2] === number && spot[3] === i + 1;
+      }, event.shiftKey);
+      return line;
+    });
+    at("file").textContent = name;
+    at("source").replaceChildren(...this.lines);
+  }
+
+  // Where it goes
+
+  seek(fits, isBackwards) {
+    for (let i = isBackwards ? this.done - 2 : this.done; i >= 0 && i < this.steps.length; i += isBackwards ? -1 : 1) {
+      if (fits(this.steps[i])) return this.go(i + 1);
+    }
+  }
+
+  go(to) {
+    this.done = Math.max(0, Math.min(this.steps.length, to));
+    const step = this.done ? this.steps[this.done - 1] : null, registers = this.registers(this.done);
+    this.memory.go(this.done);
+    this.now = registers;
+    at("slide").value = this.done;
+    this.showWhere(step);
+    this.showRegisters(step, registers);
+    this.showMemory();
+    at("console").textContent = this.data.console.slice(0, step ? step[CONSOLE] : 0);
+    at("console").scrollTop = at("console").scrollHeight;
+    this.showCalls();
+  }
+
+  // What is shown of a step
+
+  showWhere(step) {
+    const where = at("where");
+    where.replaceChildren();
+    this.marked?.classList.remove("now");
+    this.marked = null;
+    if (step) {
+      const spot = this.data.spots[step[SPOT]];
+      where.append(`step ${this.done} of ${this.steps.length}, tick ${step[TICK]}: ${spot[0]} ${spot[1]}  ${spot[4]}  `);
+      if (spot[5]) where.append(make("span", "pseudo", `the ${spot[6] === 1 ? "first" : "second"} of the two instructions of \`${spot[5]}\` `));
+      if (step[TOLD]) where.append(make("span", "told" + (step[IS_BAD] ? " bad" : ""), `${step[TOLD]} `));
+      if (step[KERNEL].length) {
+        where.append(make("span", "kernel", `before it the kernel set ${this.data.names.filter((_, i) => names(step[KERNEL], i)).join(" ")}`));
+      }
+      if (spot[3]) this.mark(spot);
+    } else {
+      where.append(this.steps.length ? "before the first step" : "no step");
+    }
+    if (this.done === this.steps.length) where.append(make("span", "", ` The end: ${this.data.end}`));
+  }
+
+  mark([, , file, line]) {
+    this.show(file);
+    this.marked = this.lines[line - 1] ?? null;
+    if (!this.marked) return;
+    this.marked.classList.add("now");
+    reveal(at("source"), this.marked, 3);
+  }
+
+  showRegisters(step, registers) {
+    this.cells.forEach((cell, i) => {
+      const value = registers[i], isOwn = step && names(step[OWN], i), isKernel = step && names(step[KERNEL], i);
+      cell.children[1].textContent = hex(value);
+      cell.children[2].textContent = value === null ? "" : value | 0;
+      cell.className = isOwn ? "new" : isKernel ? "kernel" : "";
+    });
+  }
+
+  showCalls() {
+    let last = null;
+    for (const [place, line] of this.calls) {
+      line.classList.toggle("later", place > this.done);
+      line.classList.toggle("now", place === this.done);
+      if (place <= this.done) last = line;
+    }
+    if (last) reveal(at("calls"), last, 2);
+  }
+
+  /** The address that a word says: a number, a label, a register; of no word that of the last store. */
+  addressOf(word) {
+    if (!word) return this.memory.lastStore() ?? (this.memory.pageAt(0x10000000) ? 0x10000000 : this.now[this.data.names.indexOf("$sp")]);
+    if (/^([0-9]+|0x[0-9a-f]{1,8})$/i.test(word)) return Number(word) >>> 0;
+    const found = /^(\w+|[\w.]+)([+-][0-9]+)?$/.exec(word.replace(/^\$/, "")), number = /^\$([0-9]+)$/.exec(word);
+    const register = number ? Number(number[1]) : this.data.names.indexOf(word);
+    if (register >= 0 && register < this.now.length) return this.now[register];
+    const label = found && Object.hasOwn(this.data.labels, found[1]) ? this.data.labels[found[1]] : undefined;
+    return label === undefined ? undefined : label + Number(found[2] ?? 0) >>> 0;
+  }
+
+  /** The label at an address, or before it in the same row. */
+  labelsIn(from, to) {
+    return Object.entries(this.data.labels).filter(([, it]) => it >= from && it < to).map(([name, it]) => name + (it > from ? `@${it - from}` : "")).join(" ");
+  }
+
+  showMemory() {
+    const pane = at("memory"), word = at("address").value.trim(), address = this.addressOf(word), rows = [];
+    if (address === undefined || address === null) {
+      pane.replaceChildren(make("div", "word-row", address === null ? `${word} isn't known here` : `there is no label ${word}, nor is it an address`));
+      return;
+    }
+    const first = address - address % 16;
+    let why = "";
+    for (let from = first; from < first + 16 * MEMORY_ROWS && from < 2 ** 32; from += 16) {
+      const bytes = Array.from({ length: 16 }, (_, i) => this.memory.byte(from + i)), reason = bytes.find(it => typeof it === "string");
+      rows.push(this.memoryRow(from, bytes));
+      if (reason && reason !== why) rows.push(make("div", "word-row", `  ${hex(from)} isn't known: ${reason}`));
+      why = reason ?? "";
+      if (reason === "no page is there" && bytes.every(it => it === reason)) break;
+    }
+    pane.replaceChildren(...rows);
+  }
+
+  memoryRow(from, bytes) {
+    const row = make("div", "word-row", `${hex(from)} `);
+    for (let i = 0; i < 16; i += 4) {
+      const digits = bytes.slice(i, i + 4).reverse().map(it => typeof it === "string" ? "??" : it.toString(16).padStart(2, "0")).join("");
+      const word = make("span", [0, 1, 2, 3].some(k => this.memory.isNew(from + i + k)) ? "new" : "", digits);
+      if (!digits.includes("?")) word.title = `${parseInt(digits, 16) | 0} at 0x${hex(from + i)}`;
+      row.append(" ", word);
+    }
+    const letters = bytes.map(it => typeof it === "string" ? "?" : it >= 32 && it < 127 ? String.fromCharCode(it) : ".").join("");
+    row.append(`  ${letters}  `, make("i", "", this.labelsIn(from, from + 16)));
+    return row;
+  }
 }
-function seek(fits, backwards) {
-  for (let i = backwards ? done - 2 : done; i >= 0 && i < steps.length; i += backwards ? -1 : 1) if (fits(steps[i])) return go(i + 1);
+
+/** Shows a recording in the markup of step.html. The answer goes to a step; `close` is called where the reader is done. */
+export function showSteps(data, close = null) {
+  const view = new StepView(data), isCall = step => step[IS_CALL];
+  const words = {
+    first: () => view.go(0), back: () => view.go(view.done - 1), next: () => view.go(view.done + 1), last: () => view.go(view.steps.length),
+    call: () => view.seek(isCall, false), callback: () => view.seek(isCall, true),
+  };
+  for (const name in words) at(name).onclick = words[name];
+  at("slide").oninput = event => view.go(Number(event.target.value));
+  at("address").oninput = () => view.showMemory();
+  at("close").hidden = !close;
+  at("close").onclick = close;
+  document.onkeydown = event => {
+    if (event.ctrlKey || event.metaKey || event.altKey) return;
+    if (event.target === at("address") && event.key !== "Escape") return;
+    const many = event.shiftKey ? 10 : 1;
+    const keys = {
+      ArrowLeft: () => view.go(view.done - many), ArrowRight: () => view.go(view.done + many), Home: words.first, End: words.last, c: words.call,
+      C: words.callback, m: () => at("address").focus(), Escape: () => event.target === at("address") ? at("address").blur() : close?.(),
+    };
+    if (!Object.hasOwn(keys, event.key)) return;
+    event.preventDefault();
+    keys[event.key]();
+  };
+  view.go(view.done);
+  return place => view.go(place);
 }
-let marked = null;
-function go(to) {
-  done = Math.max(0, Math.min(steps.length, to));
-  const step = done ? steps[done - 1] : null, regs = registers(done), where = at("where");
-  at("slide").value = done;
-  where.replaceChildren();
-  if (marked) marked.classList.remove("now");
-  marked = null;
-  if (step) {
-    const spot = data.spots[step[1]];
-    where.append(`step ${done} of ${steps.length}, tick ${step[0]}: ${spot[0]} ${spot[1]}  ${spot[4]}  `);
-    if (step[5]) where.append(make("span", "told" + (step[7] ? " bad" : ""), step[5] + " "));
-    if (step[3].length) where.append(make("span", "kernel", "before it the kernel set "
-      + data.names.filter((_, i) => step[3].some((it, at) => at % 2 === 0 && it === i)).join(" ")));
-    if (spot[3]) { show(spot[2]); marked = lines[spot[3] - 1]; }
-    if (marked) { marked.classList.add("now"); const pane = at("source"), top = marked.offsetTop - pane.offsetTop;
-      if (top < pane.scrollTop + 20 || top > pane.scrollTop + pane.clientHeight - 60) pane.scrollTop = top - pane.clientHeight / 3; }
-  } else where.append(steps.length ? "before the first step" : "no step");
-  if (done === steps.length) where.append(make("span", "", " The end: " + data.end));
-  cells.forEach((cell, i) => { cell.lastChild.textContent = hex(regs[i]);
-    const own = step && step[2].some((it, k) => k % 2 === 0 && it === i), kernel = step && step[3].some((it, k) => k % 2 === 0 && it === i);
-    cell.className = own ? "new" : kernel ? "kernel" : ""; });
-  at("console").textContent = data.console.slice(0, step ? step[4] : 0);
-  at("console").scrollTop = at("console").scrollHeight;
-  let last = null;
-  calls.forEach(([place, line]) => { line.classList.toggle("later", place > done); line.classList.toggle("now", place === done);
-    if (place <= done) last = line; });
-  if (last) { const pane = at("calls"), top = last.offsetTop - pane.offsetTop; if (top < pane.scrollTop || top > pane.scrollTop + pane.clientHeight - 30)
-    pane.scrollTop = top - pane.clientHeight / 2; }
-}
-at("slide").max = steps.length;
-at("slide").oninput = event => go(+event.target.value);
-const isCall = step => step[6];
-const words = { first: () => go(0), back: () => go(done - 1), next: () => go(done + 1), last: () => go(steps.length),
-  call: () => seek(isCall, false), callback: () => seek(isCall, true) };
-for (const name in words) at(name).onclick = words[name];
-document.onkeydown = event => {
-  if (event.ctrlKey || event.metaKey || event.altKey) return;
-  const many = event.shiftKey ? 10 : 1;
-  const keys = { ArrowLeft: () => go(done - many), ArrowRight: () => go(done + many), Home: words.first, End: words.last, c: words.call, C: words.callback };
-  if (keys[event.key]) { event.preventDefault(); keys[event.key](); }
-};
-show(0);
-go(done);
-const wanted = /^#(\d+)$/.exec(location.hash);
-if (wanted) go(+wanted[1]);

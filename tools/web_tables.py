@@ -1,0 +1,44 @@
+"""What the page for browsers has from the tools: names, sentences and limits, as values that JSON can have."""
+
+from __future__ import annotations
+
+from typing import Any, Dict
+
+import kernel_calls
+import limits
+import refusals
+import source
+from knowledge import NAMES
+from programs import tool
+from report import CAUSES
+
+LINT, TRY = tool("lint"), tool("try")
+
+
+def of_limits() -> Dict[str, Any]:
+    """The numbers that the page says or keeps to."""
+    return {
+        "pageSize": limits.PAGE_SIZE, "ticks": limits.MOST_TICKS, "traced": limits.MOST_TRACED_TICKS, "environments": limits.MOST_ENVIRONMENTS,
+        "leastQuantum": limits.LEAST_QUANTUM, "mostQuantum": limits.MOST_QUANTUM, "stackPages": limits.MOST_STACK_PAGES,
+        "leastPages": limits.LEAST_PAGES, "mostPages": refusals.MOST_PAGES, "mappings": limits.MOST_MAPPINGS, "packet": limits.MOST_PACKET_SIZE,
+        "line": limits.MOST_LINE, "target": limits.MOST_TARGET, "asked": limits.MOST_ASKED,
+        "versions": {number: {"pages": most.most_pages, "environments": most.most_environments} for number, most in limits.VERSIONS.items()},
+        "rows": {number: most.stripe_rows for number, most in limits.VERSIONS.items()},
+    }
+
+
+def of_sources() -> Dict[str, Any]:
+    """What the assembler has: operations with their operands, registers, and what is written elsewhere."""
+    return {
+        "operands": source.OPERANDS, "registers": source.REGISTERS, "branches": sorted(source.BRANCHES), "jumps": sorted(source.JUMPS),
+        "loads": sorted(source.LOADS), "signed": sorted(source.SIGNED), "instead": refusals.INSTEAD, "ofRegisters": sorted(refusals.OF_REGISTERS),
+        "withNumber": refusals.WITH_NUMBER, "nothingFor": refusals.NOTHING_FOR, "characters": refusals.CHARACTERS,
+        "leftOut": sorted(refusals.LEFT_OUT), "forms": refusals.FORMS, "spim": LINT.SPIM,
+    }
+
+
+def tables() -> Dict[str, Any]:
+    """All of it, by the names that web/ has for them."""
+    calls = {number: {"name": it.name, "arguments": it.arguments} for number, it in kernel_calls.CALLS.items()}
+    return {**of_sources(), "limits": of_limits(), "causes": CAUSES, "usually": TRY.USUALLY, "refusals": refusals.KINDS, "calls": calls,
+            "answers": kernel_calls.ANSWERS, "kinds": kernel_calls.KINDS, "names": NAMES}

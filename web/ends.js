@@ -1,0 +1,76 @@
+// How each environment of a run ended, in the words of tools/try.
+
+import { placesOf } from "./places.js";
+import { DATA } from "./source.js";
+import { tables } from "./tables.js";
+import { address, counted, shown, utf8 } from "./text.js";
+
+// What begins a line of tools/try: how an environment ended, and what stands below that.
+const OWN_LINE = /^(?:-- |   (at 0x|it |and [0-9]|usually: |[0-9a-f]{8} [0-9a-f]{8} |\S+:[0-9]+: ))/;
+const OF_AN_ACCESS = ["mod", "tlbl", "tlbs", "adel", "ades"];
+
+const many = (count, what = "packet") => `${counted(count)} ${what}${count === 1 ? "" : "s"}`;
+
+/** Where the load or store of a listed instruction goes. */
+function addressOf(text, env) {
+  const found = /^(\w+) \$\d+,(-?\d+)\(\$(\d+)\)$/.exec(text);
+  if (!found || !tables.loads.includes(found[1])) return null;
+  return env.cpu.registers[Number(found[3])] + Number(found[2]) >>> 0;
+}
+
+/** The instruction at which an environment stands, and the line of its source. */
+export function place(program, env, withAddress) {
+  const { pc } = env.cpu, line = program.listing.get(pc);
+  if (line === undefined) {
+    const last = Math.max(...program.listing.keys());
+    const why = pc >= DATA ? ["   it jumped out of its text: is the register of a `jr` the address that a call left in it?"]
+      : program.listing.size && pc >= last + 4 ? ["   it ran on behind its last instruction: a program ends by exit, and a function by `jr $31`"] : [];
+    return { lines: [`   at 0x${address(pc)}, where no instruction of the program's text is`, ...why], at: null };
+  }
+  const at = placesOf(program).lines.get(pc) ?? null, reached = withAddress ? addressOf(line.slice(18), env) : null;
+  return {
+    lines: [`   ${line}`, ...(at ? [`   ${at.file}:${at.number}: ${at.text}`] : []),
+      ...(reached !== null ? [`   it goes to address 0x${address(reached)}`] : [])],
+    at,
+  };
+}
+
+/** The lines of a console. One that looks like a line of tools/try has its first character as digits. */
+function consoleLines(bytes) {
+  const text = utf8(bytes).replace(/\n+$/, "");
+  const escaped = line => `\\x${line.codePointAt(0).toString(16).padStart(2, "0")}${line.slice(line.codePointAt(0) > 0xffff ? 2 : 1)}`;
+  return text ? shown(text).split("\n").map(line => OWN_LINE.test(line) ? escaped(line) : line) : [];
+}
+
+/** Each environment's console, how it ended, and which of its calls were refused. `again` answers the report of another limit. */
+export function endings(report, programs, again, refused) {
+  const ended = new Map(report.marks.filter(it => it.kind === "dead" || it.kind === "exit").map(it => [it.env, it.time]));
+  return report.environments.slice(0, programs.length).map((env, at) => {
+    const who = `-- ${env.number} ${env.name}:`, tick = ended.get(env.number), console = consoleLines(env.console);
+    const found = { env, console, refused: refused[at] ?? [], tick };
+    if (env.life === "live") {
+      const how = report.ending === "limit" ? "alive at the limit" : "alive, without a slot", stands = place(programs[at], env, false);
+      return { ...found, ended: [`${who} ${how}, after ${counted(report.time)} ticks`, ...stands.lines], at: stands.at };
+    }
+    if (env.life === "exit") return { ...found, ended: [`${who} exit ${env.why} in tick ${counted(tick)}`], at: null };
+    // where its slice begins in this tick, a handler of starts may have been entered before the instruction
+    const stood = place(programs[at], again(tick).environments[env.number], OF_AN_ACCESS.includes(env.why));
+    return { ...found, at: stood.at, ended: [`${who} dead ${env.why} in tick ${counted(tick)}: ${tables.causes[env.why]}`, ...stood.lines,
+      `   usually: ${tables.usually[env.why]}`] };
+  });
+}
+
+/** What was sent, and what nobody claimed. */
+export function packetLines(report) {
+  const dropped = report.marks.filter(it => it.kind === "drop").length;
+  return [...report.environments.filter(it => it.sent.length).map(it => `-- ${it.number} ${it.name}: sent ${many(it.sent.length)}`),
+    ...(dropped ? [`-- ${many(dropped)} dropped, which nobody claimed`] : [])];
+}
+
+/** Who was asked for pages, and how many were taken. */
+export function revocationLines(report) {
+  return report.environments.flatMap(({ number, name }) => {
+    const [asked, taken] = ["asked", "take"].map(kind => report.marks.filter(it => it.kind === kind && it.env === number).length);
+    return asked ? [`-- ${number} ${name}: asked for pages ${many(asked, "time")}, ${many(taken, "page")} taken`] : [];
+  });
+}
