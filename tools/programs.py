@@ -241,7 +241,8 @@ def from_manifest(path: str, room: str) -> List[Program]:
     for line in text.decode("latin-1").split("\n"):
         words = line.split("#")[0].split()
         if len(words) >= 6 and words[0] == "env":
-            made.setdefault(words[-1], body(os.path.dirname(path), words[-1], words[2] == "flat", room))
+            if words[-1] not in made:
+                made[words[-1]] = body(os.path.dirname(path), words[-1], words[2] == "flat", room)
             programs.append(made[words[-1]])
     return programs
 

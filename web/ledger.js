@@ -3,7 +3,7 @@
 
 import { counted } from "./text.js";
 
-const WIDTH = 1000, LANE = 16, GAP = 4, LEFT = 34, RIGHT = 12, TOP = 6, FOOT = 20;
+const WIDTH = 560, LANE = 16, GAP = 4, LEFT = 26, RIGHT = 12, TOP = 6, FOOT = 20;
 const MOST_MARKS = 200, MOST_TICKS_SHOWN = 5;
 const SHAPES = { exit: "M-4 0a4 4 0 1 0 8 0a4 4 0 1 0-8 0", dead: "M-4-4 4 4M4-4-4 4", drop: "M0-5V4M-4 0 0 4 4 0" };
 
@@ -51,12 +51,12 @@ function marksOf(time) {
 export function drawLedger(svg, report, visit) {
   const draw = maker(svg), titled = text => draw("title", {}, text);
   const slots = [...new Set(report.slices.map(it => it.slot))].sort((one, two) => one - two), time = Math.max(report.time, 1);
-  const scale = (WIDTH - LEFT - RIGHT) / time, height = TOP + slots.length * (LANE + GAP) + FOOT, place = tick => LEFT + tick * scale;
-  svg.setAttribute("viewBox", `0 0 ${WIDTH} ${height}`);
+  const width = Math.max(svg.clientWidth, WIDTH), scale = (width - LEFT - RIGHT) / time, height = TOP + slots.length * (LANE + GAP) + FOOT, place = tick => LEFT + tick * scale;
+  svg.setAttribute("viewBox", `0 0 ${width} ${height}`);
   svg.replaceChildren();
   for (const tick of marksOf(time)) {
     svg.append(draw("path", { class: "axis", d: `M${place(tick)} ${TOP}V${height - FOOT + 3}` }),
-      draw("text", { x: place(tick), y: height - 5, "text-anchor": tick ? "middle" : "start" }, counted(tick)));
+      draw("text", { x: place(tick), y: height - 5, "text-anchor": !tick ? "start" : place(tick) > width - 30 ? "end" : "middle" }, counted(tick)));
   }
   slots.forEach((slot, lane) => {
     const y = TOP + lane * (LANE + GAP);
@@ -71,6 +71,6 @@ export function drawLedger(svg, report, visit) {
   });
   for (const it of report.marks.filter(mark => mark.kind in SHAPES).slice(0, MOST_MARKS)) {
     const lane = it.slot === null ? slots.length - 1 : slots.indexOf(it.slot), y = TOP + lane * (LANE + GAP) + LANE / 2;
-    svg.append(draw("path", { class: `mark ${it.kind}`, d: SHAPES[it.kind], transform: `translate(${Math.min(place(it.time + 1), WIDTH - 6)} ${y})` }, titled(it.row)));
+    svg.append(draw("path", { class: `mark ${it.kind}`, d: SHAPES[it.kind], transform: `translate(${Math.min(place(it.time + 1), width - 6)} ${y})` }, titled(it.row)));
   }
 }

@@ -195,9 +195,9 @@ class Page {
       return;
     }
     this.digest = sha256(found.bytes);
-    at("digest").textContent = `sha256 ${this.digest}, ${counted(found.bytes.length)} bytes: of \`${this.project.command()}\``;
+    at("digest").textContent = `report: sha256 ${this.digest}, ${counted(found.bytes.length)} bytes`;
     at("report-text").textContent = bytesShown(found.bytes);
-    at("save-report").hidden = false;
+    at("of-report").hidden = false;
     at("ledger-room").hidden = false;
     drawLedger(at("ledger"), found.report, (env, tick) => this.step(env, tick));
     at("env").replaceChildren(...found.report.environments.map(it => new Option(`${it.number} ${it.name}`, it.number)));
@@ -208,8 +208,8 @@ class Page {
     this.digest = "";
     at("ends").replaceChildren();
     at("report-text").textContent = "";
-    at("digest").textContent = "nothing ran";
-    at("save-report").hidden = true;
+    at("digest").textContent = "";
+    at("of-report").hidden = true;
     at("ledger-room").hidden = true;
     this.select("ends");
   }

@@ -17,7 +17,7 @@ function make(tag, name, ...children) {
 function lineOf(text, visit) {
   const found = PLACE.exec(text), line = make("p", "");
   if (!found || !visit.has(found[2])) {
-    line.append(shown(text));
+    line.append(shown(text.replace(/^   /, "")));
     return line;
   }
   const button = make("button", "place", shown(text.trim()));

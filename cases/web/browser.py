@@ -157,7 +157,7 @@ class Firefox:
         self.message()  # its greeting
         self.call("WebDriver:NewSession", capabilities={"alwaysMatch": {"acceptInsecureCerts": True}})
         self.size(1280, 720)
-        self.in_chrome("globalThis.aegisRequests = []; Services.obs.addObserver(it => globalThis.aegisRequests.push(it.QueryInterface(Ci.nsIChannel).URI.spec), "
+        self.in_chrome("window.aegisRequests = []; Services.obs.addObserver(it => window.aegisRequests.push(it.QueryInterface(Ci.nsIChannel).URI.spec), "
                        "'http-on-modify-request'); Services.console.reset();")
 
     def __enter__(self) -> "Firefox":
@@ -224,7 +224,7 @@ class Firefox:
         """What its console has of the page, and the requests that the page made."""
         said = self.in_chrome("return Services.console.getMessageArray().filter(it => it instanceof Ci.nsIScriptError && /^file:/.test(it.sourceName))"
                               ".map(it => it.errorMessage);")
-        asked = self.in_chrome("return globalThis.aegisRequests;")
+        asked = self.in_chrome("return window.aegisRequests;")
         return [*said, *(f"a request: {it}" for it in asked if not any(word in it for word in OF_FIREFOX))]
 
 
