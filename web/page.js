@@ -97,13 +97,14 @@ class Page {
       this.say("The link has no program that can be read.");
     }
     const id = decodeURIComponent(location.hash.slice(1)), example = this.examples.find(it => it.id === id) ?? this.examples[0];
-    this.show(project ?? Project.ofExample(example, this.texts));
+    this.show(project ?? Project.ofKept(id) ?? Project.ofExample(example, this.texts));
     at("command-words").value = example.command ?? "";
   }
 
   show(project) {
     this.close();
     this.project = project;
+    this.list(project);
     at("examples").value = project.id;
     for (const name of WORDS) if (name !== "schedule") at(name).value = project.words[name];
     this.fillSchedules();
@@ -111,6 +112,13 @@ class Page {
     this.editor.show(project);
     this.clear();
     this.showEdited();
+  }
+
+  /** Puts what was opened, or came by a link, above the examples in the list. */
+  list({ id, title }) {
+    const known = [...at("examples").options].find(it => it.value === id);
+    if (known && !this.examples.some(it => it.id === id)) known.textContent = title;
+    if (!known) at("examples").prepend(new Option(title, id));
   }
 
   fillSchedules() {
@@ -145,7 +153,11 @@ class Page {
     const chosen = [...at("files").files], opened = new Map();
     for (const it of chosen) opened.set(it.name, new Uint8Array(await it.arrayBuffer()));
     at("files").value = "";
-    if (opened.size) this.show(Project.ofFiles(opened));
+    if (!opened.size) return;
+    const project = Project.ofFiles(opened);
+    project.keep();
+    history.replaceState(null, "", `#${project.id}`);
+    this.show(project);
   }
 
   makeLink() {
@@ -293,7 +305,7 @@ async function begin() {
   try {
     fillTables(partOf("tables"));
     const run = await load(bytesOfLatin(atob(at("module").textContent.trim())));
-    window.aegisPage = new Page(run, partOf("programs"));
+    new Page(run, partOf("programs"));
   } catch (why) {
     at("ends").textContent = why instanceof Failed ? why.message : `This browser can't run the page's module: it wants WebAssembly (${why.message}).`;
   }

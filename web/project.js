@@ -5,6 +5,7 @@ import { bytesOfLatin, latin, utf8 } from "./text.js";
 
 const KEEPS = "aegis page: "; // before the names under which the browser keeps edits
 const HAND_IN = "HAND-IN"; // the file of a hand-in that says what ran
+const OPENED = "opened"; // the name of files that were opened
 const LONGEST_LINK = 30_000;
 const DEFAULTS = { sources: "", ticks: "1000000", quantum: "100", schedule: "" };
 
@@ -58,13 +59,19 @@ export class Project {
     for (const [name, bytes] of opened) for (const [own, content] of isTar(bytes) ? unpackTar(bytes) : [[name, bytes]]) files.set(own, content);
     const words = wordsOf(files);
     files.delete(HAND_IN);
-    return new Project("opened", [...opened.keys()].join(" "), files, words);
+    return new Project(OPENED, [...opened.keys()].join(" "), files, words);
+  }
+
+  /** The files that were opened last, where the browser kept them; nothing for another name. */
+  static ofKept(id) {
+    const kept = id === OPENED ? read(id) : null;
+    return kept && new Project(OPENED, kept.title, unpacked(kept.files), kept.words);
   }
 
   /** Has the browser keep the edits. */
   keep() {
     this.isEdited = true;
-    write(this.id, { files: packed(this.files), words: this.words });
+    write(this.id, { title: this.title, files: packed(this.files), words: this.words });
   }
 
   forget() {

@@ -31,6 +31,7 @@ class StepView {
     Object.assign(this, { data, steps: data.steps, kept: [], calls: [], lines: [], file: -1, marked: null });
     this.memory = new StepMemory(data.memory, data.steps);
     this.done = this.steps.length ? 1 : 0;
+    this.now = data.first;
     this.keep();
     for (const name of ["regs", "calls", "source"]) at(name).replaceChildren();
     this.cells = data.names.map((name, i) => this.cell(name, i));
@@ -241,6 +242,7 @@ export function showSteps(data, close = null) {
     event.preventDefault();
     keys[event.key]();
   };
+  if (view.addressOf(at("address").value.trim()) === undefined) at("address").value = ""; // of another program
   view.go(view.done);
   return place => view.go(place);
 }

@@ -4,8 +4,8 @@
         browser.open(url)
         browser.evaluate("document.title")
 
-Both have the same methods: `open`, `evaluate` an expression in the page, `key`, `picture`, `size`, and `complaints`: what the page's
-console said of faults, and which addresses it asked for.
+Both have the same methods: `open`, `evaluate` an expression in the page, `key`, `choose` files, `picture`, `size`, and `complaints`:
+what the page's console said of faults, and which addresses it asked for. What is saved comes into the folder.
 """
 
 from __future__ import annotations
@@ -55,6 +55,7 @@ class Chromium:
         for part in ("Page", "Runtime", "Log", "Network"):
             self.call(f"{part}.enable")
         self.size(1280, 720)
+        self.call("Page.setDownloadBehavior", behavior="allow", downloadPath=folder)
 
     def __enter__(self) -> "Chromium":
         return self
@@ -129,6 +130,11 @@ class Chromium:
         self.call("Emulation.setDeviceMetricsOverride", width=width, height=height, deviceScaleFactor=scale, mobile=is_mobile)
         self.call("Emulation.setEmulatedMedia", features=[{"name": "prefers-color-scheme", "value": "dark" if is_dark else "light"}])
 
+    def choose(self, selector: str, paths: List[str]) -> None:
+        """Gives files to an input for files."""
+        root = self.call("DOM.getDocument")["root"]["nodeId"]
+        self.call("DOM.setFileInputFiles", files=paths, nodeId=self.call("DOM.querySelector", nodeId=root, selector=selector)["nodeId"])
+
     def picture(self, path: str) -> None:
         with open(path, "wb") as file:
             file.write(base64.b64decode(self.call("Page.captureScreenshot", format="png")["data"]))
@@ -150,15 +156,15 @@ class Firefox:
         profile = f"{folder}/firefox"
         os.makedirs(profile, exist_ok=True)
         with open(f"{profile}/user.js", "w", encoding="ascii") as file:
-            file.write(f'user_pref("marionette.port", {port});\n' + "".join(f'user_pref("{name}", {value});\n' for name, value in PREFERENCES.items()))
+            file.write(f'user_pref("marionette.port", {port});\n' + f'user_pref("browser.download.dir", {json.dumps(folder)});\n'
+                       + "".join(f'user_pref("{name}", {value});\n' for name, value in PREFERENCES.items()))
         words = [FIREFOX, "--headless", "--marionette", "--remote-allow-system-access", "--no-remote", "--profile", profile, "about:blank"]
         self.process = subprocess.Popen(words, stdin=subprocess.DEVNULL, stdout=subprocess.DEVNULL, stderr=subprocess.DEVNULL, start_new_session=True)
         self.connection, self.rest, self.number = connected(port, self.process), b"", 0
         self.message()  # its greeting
         self.call("WebDriver:NewSession", capabilities={"alwaysMatch": {"acceptInsecureCerts": True}})
         self.size(1280, 720)
-        self.in_chrome("window.aegisRequests = []; Services.obs.addObserver(it => window.aegisRequests.push(it.QueryInterface(Ci.nsIChannel).URI.spec), "
-                       "'http-on-modify-request'); Services.console.reset();")
+        self.in_chrome(WATCH)
 
     def __enter__(self) -> "Firefox":
         return self
@@ -216,6 +222,11 @@ class Firefox:
     def size(self, width: int, height: int) -> None:
         self.call("WebDriver:SetWindowRect", width=width, height=height)
 
+    def choose(self, selector: str, paths: List[str]) -> None:
+        """Gives files to an input for files."""
+        found = self.call("WebDriver:FindElement", using="css selector", value=selector)["value"]
+        self.call("WebDriver:ElementSendKeys", id=next(iter(found.values())), text="\n".join(paths))
+
     def picture(self, path: str) -> None:
         with open(path, "wb") as file:
             file.write(base64.b64decode(self.call("WebDriver:TakeScreenshot", full=False)["value"]))
@@ -225,7 +236,7 @@ class Firefox:
         said = self.in_chrome("return Services.console.getMessageArray().filter(it => it instanceof Ci.nsIScriptError && /^file:/.test(it.sourceName))"
                               ".map(it => it.errorMessage);")
         asked = self.in_chrome("return window.aegisRequests;")
-        return [*said, *(f"a request: {it}" for it in asked if not any(word in it for word in OF_FIREFOX))]
+        return [*said, *(f"a request: {it}" for it in asked)]
 
 
 # What keeps Firefox from asking for things of its own.
@@ -235,9 +246,19 @@ PREFERENCES: Dict[str, str] = {
     "network.connectivity-service.enabled": "false", "extensions.update.enabled": "false", "browser.safebrowsing.malware.enabled": "false",
     "browser.safebrowsing.phishing.enabled": "false", "services.settings.server": '"data:,"', "browser.region.update.enabled": "false",
     "extensions.systemAddon.update.enabled": "false", "app.normandy.enabled": "false", "browser.aboutwelcome.enabled": "false",
+    "media.gmp-provider.enabled": "false", "media.gmp-manager.updateEnabled": "false", "browser.download.folderList": "2",
+    "browser.download.useDownloadDir": "true", "browser.download.always_ask_before_handling_new_types": "false",
     "datareporting.healthreport.uploadEnabled": "false", "browser.topsites.contile.enabled": "false", "extensions.getAddons.cache.enabled": "false",
 }
-OF_FIREFOX = ("mozilla.", "firefox.", "127.0.0.1")
+# Has Firefox note each request that isn't its own.
+WATCH = """
+window.aegisRequests = [];
+Services.obs.addObserver(it => {
+  const channel = it.QueryInterface(Ci.nsIChannel);
+  if (!channel.loadInfo.triggeringPrincipal.isSystemPrincipal) window.aegisRequests.push(channel.URI.spec);
+}, "http-on-modify-request");
+Services.console.reset();
+"""
 
 
 def connected(port: int, process: "subprocess.Popen[bytes]") -> socket.socket:

@@ -2,7 +2,7 @@
 """What the page's modules tell, against tools/try and tools/step: all sources and manifests of the repository, the exercises with
 their wrong solutions, and sources, manifests and schedules with faults.
 
-    cases/web/parity.py MODULE [WORD]     compares the items whose names have the word, and prints each line that differs
+    cases/web/parity.py PAGE [WORD]     compares the items whose names have the word, and prints each line that differs
 
 Status: 0 nothing differs; 1 something does.
 """
@@ -41,6 +41,7 @@ RUNNER.__loader__.exec_module(RUNNER)
 TICKS, QUANTUM = 3_000, 100
 LONGEST_ROW = 3_000  # characters
 WORKERS = 2
+LEAST, LEAST_RECORDINGS = 1_000, 600  # runs and recordings that are compared
 
 
 class Item(NamedTuple):
@@ -174,15 +175,12 @@ def steps_of(item: Item) -> Optional[Dict[str, Any]]:
         return json.loads(json.dumps(step_page.Data(recording, places_of(program), program, item.name).all()))
 
 
-def of_page(module: str, tried: List[Item]) -> List[Dict[str, Any]]:
+def of_page(page: str, tried: List[Item]) -> List[Dict[str, Any]]:
     """What the page's modules tell of all items."""
-    with tempfile.TemporaryDirectory(prefix="aegis-web-") as room:
-        with open(f"{room}/tables.json", "w", encoding="utf-8") as file:
-            subprocess.run([f"{ROOT}/tools/web", "--tables"], stdout=file, check=True)
-        asked = [{"folder": it.folder, "sources": it.sources, "schedule": it.schedule, "ticks": TICKS, "quantum": QUANTUM, "title": it.name,
-                  **({} if it.env is None else {"env": it.env})} for it in tried]
-        ran = subprocess.run(["node", f"{CASE}/told.mjs", module, f"{room}/tables.json"], input="".join(f"{json.dumps(it)}\n" for it in asked),
-                             stdout=subprocess.PIPE, text=True, encoding="utf-8", check=True)
+    asked = [{"folder": it.folder, "sources": it.sources, "schedule": it.schedule, "ticks": TICKS, "quantum": QUANTUM, "title": it.name,
+              **({} if it.env is None else {"env": it.env})} for it in tried]
+    ran = subprocess.run(["node", f"{CASE}/told.mjs", page], input="".join(f"{json.dumps(it)}\n" for it in asked), stdout=subprocess.PIPE, text=True,
+                         encoding="utf-8", check=True)
     return [json.loads(line) for line in ran.stdout.split("\n")[:-1]]
 
 
@@ -206,23 +204,23 @@ def differences(ours: Dict[str, Any], theirs: Dict[str, Any]) -> Iterator[str]:
             yield f"steps, {part} {at}: {first[0]!r:.300} and not {first[1]!r:.300}"
 
 
-def compared(module: str, word: str = "") -> Tuple[int, int, List[str]]:
+def compared(page: str, word: str = "") -> Tuple[int, int, List[str]]:
     """How many items were compared, how many recordings among them, and what differs."""
     with tempfile.TemporaryDirectory(prefix="aegis-web-") as room:
         tried = [it for it in items(room) if word in it.name]
         with ProcessPoolExecutor(WORKERS) as pool:
             theirs = list(pool.map(of_tools, tried, chunksize=8))
-        ours = of_page(module, tried)
+        ours = of_page(page, tried)
         said = [f"{item.name}: {line}" for item, one, other in zip(tried, ours, theirs) for line in differences(one, other)]
         return len(tried), sum(it["steps"] is not None for it in theirs), said
 
 
 def main(words: List[str]) -> int:
     parser = argparse.ArgumentParser(prog="parity", description=__doc__, formatter_class=argparse.RawDescriptionHelpFormatter)
-    parser.add_argument("module")
+    parser.add_argument("page")
     parser.add_argument("word", nargs="?", default="")
     chosen = parser.parse_args(words)
-    count, recordings, said = compared(os.path.abspath(chosen.module), chosen.word)
+    count, recordings, said = compared(os.path.abspath(chosen.page), chosen.word)
     print("\n".join([*said, f"{count} runs, {recordings} recordings: {len({it.partition(': ')[0] for it in said})} differ"]))
     return 1 if said else 0
 

@@ -1,18 +1,19 @@
-// What the page's modules tell of runs, for cases/web/test: for each line of standard input, which names a folder, what runs and how
-// long, a line of JSON with the lines of the run and, where an environment is named, its steps.
+// What the script of a page tells of runs, for cases/web/parity.py: for each line of standard input, which names a folder, what runs and
+// how long, a line of JSON with the lines of the run and, where an environment is named, its steps. The script, its tables and the
+// module are the page's own; there is no document, so the page itself doesn't begin.
 //
-//     node told.mjs MODULE TABLES
+//     node told.mjs PAGE
 
 import { readdirSync, readFileSync, statSync } from "node:fs";
 import { createInterface } from "node:readline";
-import { load } from "../../web/aegis.js";
-import { stepData } from "../../web/steps.js";
-import { fillTables } from "../../web/tables.js";
-import { isWell, linesOf, told } from "../../web/told.js";
 
-const [module, tables] = process.argv.slice(2);
-fillTables(JSON.parse(readFileSync(tables, "utf8")));
-const run = await load(readFileSync(module));
+const page = readFileSync(process.argv[2], "utf8");
+const partOf = id => new RegExp(`<script type="[^"]*" id="${id}">([^]*?)</script>`).exec(page)[1];
+const nothing = { getElementById: () => ({ textContent: "" }) };
+const modules = new Function("document", `${/<script>([^]*?)<\/script>/.exec(page)[1]}; return modules;`)(nothing);
+const { aegis, steps, tables, told } = modules;
+tables.fillTables(JSON.parse(partOf("tables")));
+const run = await aegis.load(Buffer.from(partOf("module"), "base64"));
 
 /** The files of a folder by their names. */
 function filesOf(folder) {
@@ -21,8 +22,8 @@ function filesOf(folder) {
 }
 
 for await (const line of createInterface({ input: process.stdin })) {
-  const { folder, env, title, ...words } = JSON.parse(line), found = told(run, filesOf(folder), words);
-  const status = found.failure ? found.failure.status : isWell(found) ? 0 : 1;
-  const steps = env === undefined || found.failure ? null : stepData(found, env, title);
-  console.log(JSON.stringify({ status, lines: linesOf(found), steps }));
+  const { folder, env, title, ...words } = JSON.parse(line), found = told.told(run, filesOf(folder), words);
+  const status = found.failure ? found.failure.status : told.isWell(found) ? 0 : 1;
+  const data = env === undefined || found.failure ? null : steps.stepData(found, env, title);
+  console.log(JSON.stringify({ status, lines: told.linesOf(found), steps: data }));
 }
