@@ -7,7 +7,7 @@ import { warnings } from "./lint.js";
 import { Report } from "./report.js";
 import { readSource } from "./source.js";
 import { tables } from "./tables.js";
-import { bytesOfLatin, latin, quoted, wordsOf } from "./text.js";
+import { ascii, bytesOfLatin, latin, quoted, wordsOf } from "./text.js";
 
 export const USAGE = 2, REFUSED = 3, UNREAD = 4;
 const STACK = 4; // pages
@@ -95,7 +95,7 @@ export class Workshop {
     const { status, output } = this.command(["list", program.elf], new Map([[program.elf, program.file]]));
     if (status === REFUSED) throw new Failed(REFUSED, badElf(program.shown, program.file, ...refusal(output)));
     if (status) throw new Failed(status, [`${program.shown}: \`list\` ended with ${status}`]);
-    for (const line of latin(output).split("\n")) if (line) program.listing.set(parseInt(line.slice(0, 8), 16), line);
+    for (const line of ascii(output).split("\n")) if (line) program.listing.set(parseInt(line.slice(0, 8), 16), line);
   }
 
   /** The programs of these files, and a manifest of them. */
@@ -202,7 +202,7 @@ export class Workshop {
   trace(ticks, env) {
     const { status, output } = this.aegis("trace", "try.img", "try.sch", String(Math.min(ticks, tables.limits.traced)), String(env));
     if (status) throw new Failed(status, [`\`trace\` ended with ${status}`]);
-    return latin(output);
+    return ascii(output);
   }
 }
 

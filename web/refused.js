@@ -9,27 +9,44 @@ const LAST_ARGUMENT = 8;
 export const MOST_LINES = 10;
 export const TRANSFERS = ["async", "sync"];
 
+/** The registers that a line of a trace tells, from its end backwards: a name and eight digits each. */
+function* toldBy(text, from, to) {
+  for (let end = to; text[end - 9] === " "; ) {
+    const name = text.lastIndexOf(" ", end - 10);
+    if (name < from || text[name + 1] !== "$" && !text.startsWith("hi ", name + 1) && !text.startsWith("lo ", name + 1)) return;
+    yield [Number(text.slice(name + 2, end - 9)), end - 8];
+    end = name;
+  }
+}
+
 /** The refused calls of a trace, in the order of their first ones. `entries` are the ticks in which transfers entered the
- * environment: then its registers aren't known. */
+ * environment: then its registers aren't known. A trace may have 262,144 lines, so they aren't taken apart where nothing is told. */
 function refusals(text, entries) {
-  let registers = Array(LAST_ARGUMENT + 1).fill(0), entered = 0, slot = -1; // the address of the delay slot of the last jump
-  const found = new Map(), jumps = new Set([...tables.branches, ...tables.jumps]);
-  for (const line of text.split("\n").slice(1, -3)) {
-    const words = line.split(" ");
-    for (; entered < entries.length && entries[entered] < Number(words[0]); entered++) registers = Array(LAST_ARGUMENT + 1).fill(null);
-    const before = [...registers], at = parseInt(words[1], 16);
-    for (let place = words.length - 2; place > 3 && /^(\$|hi$|lo$)/.test(words[place]) && words[place + 1].length === 8; place -= 2) {
-      const number = Number(words[place].slice(1));
-      if (number >= 2 && number <= LAST_ARGUMENT) registers[number] = parseInt(words[place + 1], 16);
+  let registers = Array(LAST_ARGUMENT + 1).fill(0), entered = 0, before = -1; // where the line before begins its instruction
+  const found = new Map(), jumps = new Set([...tables.branches, ...tables.jumps]), stop = text.lastIndexOf("\nend ") + 1;
+  const addressAt = place => parseInt(text.slice(place - 18, place - 10), 16);
+  for (let from = text.indexOf("\n") + 1, to = 0; from < stop; from = to + 1) {
+    to = text.indexOf("\n", from);
+    const place = text.indexOf(" ", from) + 19, isCall = text.startsWith("syscall", place);
+    for (; entered < entries.length && entries[entered] < Number(text.slice(from, place - 19)); entered++) registers = Array(LAST_ARGUMENT + 1).fill(null);
+    const asking = isCall ? [...registers] : registers;
+    for (const [number, at] of toldBy(text, place, to)) {
+      if (number >= 2 && number <= LAST_ARGUMENT) registers[number] = parseInt(text.slice(at, at + 8), 16);
     }
-    if (words[3] === "syscall" && words.at(-1) !== "dead" && at !== slot && registers[CODE]) {
-      const key = `${at} ${before[CODE]} ${registers[CODE]}`, known = found.get(key);
-      if (known) known.times += 1;
-      else found.set(key, { address: at, asked: asked(before), code: registers[CODE], times: 1 });
+    if (isCall && registers[CODE]) {
+      const isInSlot = before >= 0 && addressAt(before) + 4 === addressAt(place) && jumps.has(/^\S+/.exec(text.slice(before, before + 12))[0]);
+      if (!isInSlot && text.slice(to - 5, to) !== " dead") note(found, addressAt(place), asking, registers[CODE]);
     }
-    slot = jumps.has(words[3]) ? at + 4 : -1;
+    before = place;
   }
   return [...found.values()];
+}
+
+/** Notes a refused call. */
+function note(found, at, asking, code) {
+  const key = `${at} ${asking[CODE]} ${code}`, known = found.get(key);
+  if (known) known.times += 1;
+  else found.set(key, { address: at, asked: asked(asking), code, times: 1 });
 }
 
 /** The refused calls of an environment, in the ticks that a trace has at most. */

@@ -1,7 +1,7 @@
 // Reads the reports of `run`: docs/REPORT.md describes their lines. What is read here was written by the module in this page, so
 // nothing is refused: tools/report.py does that.
 
-import { latin } from "./text.js";
+import { ascii } from "./text.js";
 
 /** A bar: an environment had the ticks from `start` to `end` - 1 in a slot. */
 class Slice {
@@ -37,7 +37,7 @@ function consoleOf(text) {
 export class Report {
   constructor(bytes) {
     Object.assign(this, { environments: [], slices: [], marks: [], holders: [], ending: "", time: 0, runner: null, isBooted: false });
-    const text = latin(bytes);
+    const text = ascii(bytes);
     let from = 0;
     for (let to = text.indexOf("\n"); to >= 0; to = text.indexOf("\n", from)) {
       const line = text.slice(from, to), gap = line.indexOf(" "), word = gap < 0 ? line : line.slice(0, gap);

@@ -17,7 +17,7 @@ function make(tag, name, ...children) {
 function lineOf(text, visit) {
   const found = PLACE.exec(text), line = make("p", "");
   if (!found || !visit.has(found[2])) {
-    line.append(shown(text.replace(/^   /, "")));
+    line.append(shown(text.trimStart()));
     return line;
   }
   const button = make("button", "place", shown(text.trim()));
@@ -38,7 +38,7 @@ function environmentCard(it, visit) {
   step.type = "button";
   step.title = `the steps of ${env.number} ${env.name}`;
   step.onclick = () => visit.step(env.number);
-  const head = make("p", `how${isBad ? " bad" : ""}`, make("span", `swatch ${colour(env.number)}`), how.replace(/^-- /, ""), step);
+  const head = make("p", `how${isBad ? " bad" : ""}`, make("span", `swatch ${colour(env.number)}`), make("span", "", how.replace(/^-- /, "")), step);
   const console = it.console.length ? [make("pre", "console", it.console.join("\n"))] : [];
   return make("div", `card${env.life === "dead" ? " fails" : it.refused.length ? " warns" : ""}`, head, ...console,
     ...more.map(line => lineOf(line, visit)), ...it.refused.map(line => lineOf(line, visit)));

@@ -121,6 +121,22 @@ class StepView {
     this.showCalls();
   }
 
+  /** Goes where a word says: `tick 9`, or to the next step at `line 12` or change of `$t0`; whether it is such a word. */
+  goTo(word, isBackwards) {
+    const found = /^(tick|line|)\s*(\S+)$/.exec(word.trim()), number = Number(found?.[2]), register = found ? this.registerOf(found[2]) : -1;
+    if (found?.[1] === "tick" && number >= 0) this.go(this.steps.filter(it => it[TICK] <= number).length);
+    else if (found?.[1] === "line" && number > 0) this.seek(step => this.data.spots[step[SPOT]][3] === number, isBackwards);
+    else if (register >= 0) this.seek(step => names(step[OWN], register) || names(step[KERNEL], register), isBackwards);
+    else return false;
+    return true;
+  }
+
+  /** The place of a register, of its name or its number with `$`, or -1. */
+  registerOf(word) {
+    const number = /^\$([0-9]+)$/.exec(word), place = number ? Number(number[1]) : this.data.names.indexOf(word);
+    return place < this.data.names.length ? place : -1;
+  }
+
   // What is shown of a step
 
   showWhere(step) {
@@ -174,9 +190,8 @@ class StepView {
   addressOf(word) {
     if (!word) return this.memory.lastStore() ?? (this.memory.pageAt(0x10000000) ? 0x10000000 : this.now[this.data.names.indexOf("$sp")]);
     if (/^([0-9]+|0x[0-9a-f]{1,8})$/i.test(word)) return Number(word) >>> 0;
-    const found = /^(\w+|[\w.]+)([+-][0-9]+)?$/.exec(word.replace(/^\$/, "")), number = /^\$([0-9]+)$/.exec(word);
-    const register = number ? Number(number[1]) : this.data.names.indexOf(word);
-    if (register >= 0 && register < this.now.length) return this.now[register];
+    const found = /^([\w.]+)([+-][0-9]+)?$/.exec(word), register = this.registerOf(word);
+    if (register >= 0) return this.now[register];
     const label = found && Object.hasOwn(this.data.labels, found[1]) ? this.data.labels[found[1]] : undefined;
     return label === undefined ? undefined : label + Number(found[2] ?? 0) >>> 0;
   }
@@ -228,15 +243,19 @@ export function showSteps(data, close = null) {
   for (const name in words) at(name).onclick = words[name];
   at("slide").oninput = event => view.go(Number(event.target.value));
   at("address").oninput = () => view.showMemory();
+  at("goto").onkeydown = event => {
+    if (event.key === "Enter") at("goto").classList.toggle("bad", !view.goTo(at("goto").value, event.shiftKey));
+  };
   at("close").hidden = !close;
   at("close").onclick = close;
   document.onkeydown = event => {
     if (event.ctrlKey || event.metaKey || event.altKey) return;
-    if (event.target === at("address") && event.key !== "Escape") return;
+    const isField = event.target === at("address") || event.target === at("goto");
+    if (isField && event.key !== "Escape") return;
     const many = event.shiftKey ? 10 : 1;
     const keys = {
       ArrowLeft: () => view.go(view.done - many), ArrowRight: () => view.go(view.done + many), Home: words.first, End: words.last, c: words.call,
-      C: words.callback, m: () => at("address").focus(), Escape: () => event.target === at("address") ? at("address").blur() : close?.(),
+      C: words.callback, m: () => at("address").focus(), g: () => at("goto").focus(), Escape: () => isField ? event.target.blur() : close?.(),
     };
     if (!Object.hasOwn(keys, event.key)) return;
     event.preventDefault();

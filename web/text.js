@@ -27,6 +27,11 @@ export function latin(bytes) {
   return pieces.join("");
 }
 
+/** Bytes that the program wrote, all of ASCII, as a text. */
+export function ascii(bytes) {
+  return new TextDecoder("latin1").decode(bytes);
+}
+
 /** A text with a character for each byte as these bytes. */
 export function bytesOfLatin(text) {
   return Uint8Array.from(text, it => it.charCodeAt(0));
