@@ -110,7 +110,8 @@ class Data:
             sources = {"instructions": self.listing}
         environment, head, boot = self.stepper.environment, self.recording.report.head, self.recording.boot()
         pages = {f"v{vpn}": page.rstrip(b"\0").hex() for vpn, page in sorted(boot.boot.pages.items())}
-        return {"title": self.title, "labels": self.places.labels, "memory": {"rows": boot.rows, "pages": pages}, "names": NAMES, "first": boot.registers, "spots": self.rows, "steps": steps,
+        return {"title": self.title, "labels": self.places.labels, "memory": {"rows": boot.rows, "pages": pages}, "names": NAMES,
+                "first": boot.registers, "spots": self.rows, "steps": steps,
                 "files": [[name, lines] for name, lines in sources.items()], "console": console_at(environment, environment.console_bytes),
                 "end": ending(environment, head, self.recording.steps)[3:]}
 

@@ -255,6 +255,7 @@ class Page {
     const data = stepData(found, env, title);
     at("page").hidden = true;
     at("stepper").hidden = false;
+    window.scrollTo(0, 0);
     const go = showSteps(data, () => this.close());
     if (tick !== null) go(data.steps.filter(it => it[0] <= tick).length);
   }

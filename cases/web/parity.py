@@ -38,7 +38,7 @@ TRY = tool("try")
 RUNNER = importlib.util.module_from_spec(importlib.util.spec_from_loader("runner", importlib.machinery.SourceFileLoader("runner", f"{ROOT}/cases/run")))
 sys.modules["runner"] = RUNNER  # its records ask for their module
 RUNNER.__loader__.exec_module(RUNNER)
-TICKS, QUANTUM = 3_000, 100
+TICKS, QUANTUM = 1_000, 100
 LONGEST_ROW = 3_000  # characters
 WORKERS = 2
 LEAST, LEAST_RECORDINGS = 1_000, 600  # runs and recordings that are compared

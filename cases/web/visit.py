@@ -65,7 +65,7 @@ class Visit:
     def all(self, digests: Dict[str, str], command: List[str], written: bytes) -> None:
         self.browser.open(self.address)
         self.wait("the page", "document.getElementById('examples').childElementCount > 0 && document.getElementById('sources').value !== ''")
-        self.check("it fits on 1280 by 720", True, self.value("document.documentElement.scrollHeight <= innerHeight && document.documentElement.scrollWidth <= innerWidth"))
+        self.check("it fits on 1280 by 720", True, self.value("(it => it.scrollHeight <= innerHeight && it.scrollWidth <= innerWidth)(document.documentElement)"))
         for name, digest in digests.items():
             self.open(name)
             self.check(f"the report of {name}", digest, self.run())
@@ -85,8 +85,8 @@ class Visit:
         self.run()
         self.check("a fault", True, self.text("ends").startswith("hello.s:1: UnknownName: there is no such instruction"))
         self.check("its advice", True, "There is no register `$33`" in self.text("ends"))
-        self.check("its mark", [False, "start: li $33, 5"],
-                   self.value("[document.getElementById('band').hidden, (it => it.value.slice(it.selectionStart, it.selectionEnd))(document.getElementById('text'))]"))
+        self.check("its mark", [False, "start: li $33, 5"], self.value(
+            "(it => [document.getElementById('band').hidden, it.value.slice(it.selectionStart, it.selectionEnd)])(document.getElementById('text'))"))
         self.browser.open("about:blank")
         self.browser.open(f"{self.address}#hello")
         self.wait("the page", "document.getElementById('sources').value !== ''")
