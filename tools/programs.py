@@ -13,12 +13,15 @@ import re
 import shutil
 import struct
 import subprocess
+import tempfile
 from dataclasses import dataclass, field
-from typing import Callable, Dict, List, Optional, Tuple
+from typing import Callable, Dict, List, Optional, Set, Tuple
 
 import built
+import manifests
 import refusals
-from limits import LEAST_PAGES, LEAST_QUANTUM, MOST_ENVIRONMENTS, MOST_MAPPINGS, MOST_QUANTUM, MOST_STACK_PAGES, PAGE_SIZE, VERSIONS
+from faults import faults, plain
+from limits import LEAST_QUANTUM, MOST_ENVIRONMENTS, MOST_MAPPINGS, MOST_QUANTUM, PAGE_SIZE, VERSIONS
 from report import Report, read
 from shown import decoded, shown
 from source import Source, read_source
@@ -132,17 +135,35 @@ def write(path: str, bytes_of: bytes) -> None:
 # --- From a file to a program ---------------------------------------------------------------------------------
 
 
+WARNED: Set[str] = set()  # the sources of which the linter's warnings were said
+
+
+def asm(text: bytes) -> Tuple[int, bytes]:
+    """Assembles a text: the status, and what is written."""
+    with tempfile.TemporaryDirectory(prefix="aegis-asm-") as folder:
+        write(f"{folder}/text.s", text)
+        return aegis("asm", "text.s", cwd=folder)
+
+
+def asked(text: bytes) -> Optional[Tuple[str, int]]:
+    """What the assembler refuses a text for."""
+    status, said = asm(text)
+    return refusal(said) if status == REFUSED else None
+
+
 def assembled(path: str, room: str, name: str) -> Program:
-    """The program of a source in assembly, which is linted first."""
-    source = read_source(content(path).decode("latin-1"))
-    # what the linter says of a source with a fault is said too: it may be the fault
-    say("\n".join(LINT.shown_warnings(path, source)))
-    status, said = aegis("asm", path)
+    """The program of a source in assembly, which is linted first. Of one that is refused all faults are told."""
+    text = content(path)
+    source = read_source(text.decode("latin-1"))
+    if path not in WARNED:
+        WARNED.add(path)
+        # what the linter says of a source with a fault is said too: it may be the fault
+        say("\n".join(LINT.shown_warnings(path, source)))
+    status, said = asm(plain(text))
     if status == REFUSED:
-        why, line = refusal(said)
-        text = next((it.text for it in source.statements if it.line == line), "")
-        advice = refusals.advice(why, source, text)
-        raise Failed(REFUSED, f"{path}:{line}: {why}: {refusals.meaning('source', why)}.", *quoted(text), *([advice] if advice else []))
+        found, has_more = faults(text, asked)
+        more = [f"There are more faults than these {len(found)}."] if has_more else []
+        raise Failed(REFUSED, *(line for it in found for line in it.lines(path)), *more)
     if status:
         raise Failed(status, f"{path}: `asm` ended with {status}")
     write(f"{room}/{name}.elf", said)
@@ -234,7 +255,7 @@ def from_sources(paths: List[str], quantum: int, room: str) -> List[Program]:
 
 def from_manifest(path: str, room: str) -> List[Program]:
     """The programs of a manifest, whose files stand beside it, or are made of sources there."""
-    text = content(path)
+    text = plain(content(path))
     write(f"{room}/try.txt", text)
     programs: List[Program] = []
     made: Dict[str, Program] = {}
@@ -281,7 +302,7 @@ def made_machine(sources: List[str], quantum: int, schedule: Optional[str], room
     programs = from_manifest(sources[0], room) if is_manifest else from_sources(sources, quantum, room)
     packed(sources[0] if is_manifest else NO_MANIFEST, programs, room)
     if schedule:
-        write(f"{room}/try.sch", content(schedule))
+        write(f"{room}/try.sch", plain(content(schedule)))
     return Machine(room, programs, schedule)
 
 
@@ -305,13 +326,7 @@ def bad_image(shown: str, lines: List[str], why: str, place: int, made_of: List[
     these programs, by the program."""
     if why in refusals.MANIFEST:
         text = lines[place - 1] if place <= len(lines) else ""
-        due = "version N`, which may be left out, `pages N`, `quantum N`, `slots X ..`, and then `env NAME elf STACK ACCEPT FILE` " \
-              "or `env NAME flat BASE STACK ACCEPT FILE"
-        early = "" if text.strip() else "The manifest ends too early. "
-        advice = {"Syntax": f"{early}The lines are, in this order, `{due}`.",
-                  "Range": f"Numbers are decimal or begin with `0x`; `version` is 1 or 2; `pages` is at least {LEAST_PAGES}, and at most "
-                           f"{refusals.MOST_PAGES}; `quantum` is {LEAST_QUANTUM} to "
-                           f"{MOST_QUANTUM:,}, a stack 0 to {MOST_STACK_PAGES} pages; a name has one to eight of `a` to `z`, `0` to `9` and `_`."}.get(why)
+        advice = manifests.advice(why, lines, place)
         return [f"{shown}:{place}: {why}: {refusals.meaning('manifest', why)}.", *quoted(text), *([advice] if advice else [])]
     said = {words[0]: at for at, line in enumerate(lines, 1) if (words := line.split("#")[0].split())}
     programs = [at for at, line in enumerate(lines, 1) if line.split("#")[0].split()[:1] == ["env"]]

@@ -120,6 +120,7 @@ NOTHING_FOR = {
 }
 CHARACTERS = {"\\n": 10, "\\t": 9, "\\0": 0, "\\r": 13}
 LEFT_OUT = frozenset(".globl .global .extern .ent .end .type .size .file .option .frame .mask .section .p2align".split())
+NUMBER = r"(?:-?[0-9]+|0x[0-9a-fA-F]+)"
 FORMS = {"r": "a register", "n": "a number or a name", "b": "an address such as `0($8)`", "q": "a text in quotation marks", ".": "a name"}
 
 
@@ -147,7 +148,7 @@ def event_advice(why: str, line: str) -> str:
     """What is wrong with a line of a schedule that is refused for `why`, as far as it can be told."""
     odd = re.search(r"[^\t\r -~]", line)
     if odd:
-        return f"The line has the character {wide(odd[0], line)!r}: a schedule is plain ASCII, in comments too."
+        return f"The line has the character {wide(odd[0], line)!r}: outside of comments a schedule is plain ASCII."
     words = line.split("#")[0].split()
     if why == "Syntax":
         if len(words) > 3 and words[1] == "packet":
@@ -215,7 +216,7 @@ def unknown(_source: Source, said: Statement) -> Optional[str]:
 
 
 def is_number(operand: str) -> bool:
-    return re.fullmatch(r"-?[0-9]+|0x[0-9a-fA-F]+", operand) is not None
+    return re.fullmatch(NUMBER, operand) is not None
 
 
 def compared(said: Statement) -> str:
@@ -236,7 +237,7 @@ def of_the_line(said: Statement) -> Optional[str]:
     line = said.text.split("#")[0]
     odd = re.search(r"[^\t\r -~]", said.text)
     if odd:
-        return f"The line has the character {wide(odd[0], said.text)!r}: a source is plain ASCII, in comments too."
+        return f"The line has the character {wide(odd[0], said.text)!r}: outside of comments a source is plain ASCII."
     if line.count('"') % 2 and not line.count('\\"') % 2:
         return "The quoted text doesn't end in this line."
     bare = re.sub(r'"(?:[^"\\]|\\.)*"', '""', line)
@@ -291,7 +292,8 @@ def of_the_operands(source: Source, said: Statement) -> Optional[str]:
         return f"`{name}` has {': '.join([counts[wanted], ', '.join(FORMS[it] for it in form)] if wanted else counts[:1])}."
     if not operands and form.endswith("*"):
         return f"`{name}` has one value or more."
-    for kind, operand in zip(form.rstrip("*?") + form[-1:] * 99 if form.endswith("*") else form, operands):
+    kinds = form[:-1] + form[-2:-1] * len(operands) if form.endswith("*") else form
+    for kind, operand in zip(kinds, operands):
         found = of_an_operand(name, kind, operand, operands)
         if found:
             return found
@@ -331,7 +333,33 @@ def of_an_operand(name: str, kind: str, operand: str, operands) -> Optional[str]
         return f"`{operand}` isn't a number here: numbers are decimal, or hexadecimal with `0x`."
     if kind in "nb" and re.match(r"-0x", operand):
         return "A hexadecimal number has no sign: write it in decimal, or as its 32 bits."
-    if kind in "nb" and re.search(r"[*/|&<>]|[0-9]\s*[+]|\+\s*[A-Za-z_]", operand):
+    if kind in "nb":
+        return of_a_value(operand)
+    return None
+
+
+def of_a_value(operand: str) -> Optional[str]:
+    """What is wrong with a number or an expression."""
+    offset = re.sub(r"\(\$\w+\)$", "", operand)
+    if re.fullmatch(r"[0-9]+[fb]", offset):
+        return f"There are no numbered labels: give the line a label with a name, and write that in place of `{offset}`."
+    if re.fullmatch(r"\+[0-9]+", offset):
+        return f"A number has no `+`: write `{offset[1:]}`."
+    if re.fullmatch(r"[-+]?([0-9]+\.[0-9]*|[0-9]*\.[0-9]+|[0-9]+)(e[-+]?[0-9]+)?", offset, re.I) and not is_number(offset):
+        return f"`{offset}` isn't a whole number: numbers are decimal without a point or an exponent, or hexadecimal with `0x`."
+    if re.match(r"0x", offset, re.I) and not re.fullmatch(r"0x[0-9a-fA-F]+([+-].*)?", offset):
+        why = "`0x` has a small x" if offset.startswith("0X") else "after `0x` stand digits, `0` to `9` and `a` to `f`"
+        return f"`{offset}` isn't a number: {why}."
+    if is_number(offset) and not -(1 << 31) <= number(offset) < 1 << 32:
+        return f"`{offset}` doesn't fit into 32 bits: numbers lie between -2147483648 and 4294967295."
+    two = re.fullmatch(rf"{NAME}\s*([+-])\s*{NAME}", offset)
+    if two:
+        return f"`{offset}` isn't an expression here, since it has two names: put both into registers, and write `{'addu' if two[1] == '+' else 'subu'}`."
+    if not operand:
+        return "An operand is missing: nothing stands at a comma."
+    if offset.count("(") != offset.count(")"):
+        return f"A bracket of `{offset}` is missing."
+    if not re.fullmatch(rf"(hi\(|lo\()*({NUMBER}|{NAME}([+-]{NUMBER})?)\)*", offset or "0"):
         return f"`{operand}` isn't an expression here: that is a number, a name, or a name and `+` or `-` and a number."
     return None
 

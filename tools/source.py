@@ -10,6 +10,7 @@ from dataclasses import dataclass, field
 from typing import Dict, List, Optional
 
 TEXT, DATA = 0x00400000, 0x10000000
+MARK = "\xef\xbb\xbf"  # that some editors put before a text in UTF-8, read as Latin-1
 NAME = r"[A-Za-z_.][A-Za-z0-9_.]*"
 
 REGISTERS = {str(n): n for n in range(32)}
@@ -123,7 +124,8 @@ def read_statement(count: int, line: str) -> Statement:
 
 
 def read_source(text: str) -> Source:
-    """The statements of a text, each at its place."""
+    """The statements of a text, each at its place. The mark that some editors put before UTF-8 is passed over."""
+    text = text[len(MARK):] if text.startswith(MARK) else text
     source = Source([], {}, {})
     places, in_text = {True: TEXT, False: DATA}, True
     lines = text.split("\n")
