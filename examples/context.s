@@ -1,4 +1,4 @@
-# The addresses of the context page, to paste into a program: what the kernel leaves there (docs/KERNEL.md). `.equ` may stand
+# The addresses of the context page, to paste into a program: what the kernel stores there (docs/KERNEL.md). `.equ` may stand
 # anywhere above the lines that use the names.
 # Before the last exception that a handler got:
 .equ exception_1,       0x1000  # $1
@@ -56,7 +56,7 @@
 .equ post_lines,        0x1148  # a bit for each interrupt line on which a signal came
 .equ post_outstanding,  0x114c  # pages that were outstanding when the program was last asked for some
 .equ post_deadline,     0x1150  # the tick in which those are taken that it hasn't freed
-# Of pages that were taken from it: how many, and the first record. The next record stands 8 behind, and there is room for 64.
+# Of pages that were taken from it: how many, and the first record. The next record is 8 bytes further on; there is room for 64.
 .equ taken_count,       0x117c
 .equ taken_page,        0x1180
 .equ taken_backup,      0x1184  # the backup that has a copy, or -1

@@ -1,5 +1,5 @@
 # Has the kernel send back each packet that is for it, by a handler, with its two addresses swapped, so that it goes to whoever
-# sent it. Of what stands behind the kind of a packet, at most eight bytes go back. The program itself gives its slot away.
+# sent it. Of the bytes after the kind of a packet, at most eight go back. The program itself gives its slot away.
 
 start:  li   $2, 3              # alloc: the lowest free page, which the handler has for its reply
         li   $4, -1

@@ -6,7 +6,7 @@ start:  la   $18, cache         # the numbers of its pages
 more:   li   $2, 3              # alloc: the lowest free page, which nobody else may bind
         li   $4, -1
         syscall
-        bne  $2, $0, look       # none is free
+        bne  $2, $0, look       # no page is free
         nop
         sw   $3, 0($17)
         addiu $17, $17, 4

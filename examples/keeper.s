@@ -1,4 +1,4 @@
-# Counts in a page of its own, and gives nothing back. When the page is taken, it goes on with the copy in its backup.
+# Counts in its own page, and gives nothing back. When the page is taken, it goes on with the copy in its backup.
 .equ    place, 0x00500000       # where the page is seen
 
 start:  li   $2, 8              # context: exceptions (0) are handled at $5
@@ -36,8 +36,8 @@ count:  lw   $8, 0($17)
         b    count
         nop
 
-# The address to go on at is in $26, and the bad address in $27. What the program had in $1, $26 and $27 stands at 0x1000,
-# 0x1004 and 0x1008. The records of pages that were taken stand from 0x1180 on.
+# The address to go on at is in $26, and the bad address in $27. What the program had in $1, $26 and $27 is at 0x1000,
+# 0x1004 and 0x1008. The records of pages that were taken begin at 0x1180.
 handler: sw  $2, 0x1800($0)
         sw   $4, 0x1804($0)
         sw   $5, 0x1808($0)

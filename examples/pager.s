@@ -24,7 +24,7 @@ start:  li   $2, 8              # context: exceptions (0) are handled at $5
         syscall
 
 # Cause is in $1, the address to go on at in $26, and the bad address in $27. What the program had in these three
-# stands at 0x1000, 0x1004 and 0x1008; what the handler uses beside them it keeps itself.
+# is at 0x1000, 0x1004 and 0x1008; what the handler uses beside them it keeps itself.
 handler: andi $1, $1, 0x7c      # the exception's code, times 4
         addiu $1, $1, -12
         bne  $1, $0, give_up    # it isn't TLBS, a store to no page

@@ -6,9 +6,9 @@
 # in whichever of its slots comes next, and a synchronous answer would hand on that slot, which may be its own.
 #
 # An entry leaves the mask 0, and nobody else gets in until it accepts again. It answers first. At its next turn, for which it
-# has a slot of its own, it gives the client's slot back and accepts. If it accepted before it answered, and were stopped
+# has its own slot, it gives the client's slot back and accepts. If it accepted before it answered, and were stopped
 # between the two, another client's registers would take the place of those in which the answer is.
-.equ    clients, 0x6            # environments 1 and 2, each of which has the slot of its own number
+.equ    clients, 0x6            # environments 1 and 2, each of which has the slot with its number
 
 start:  li   $2, 8              # context: synchronous transfers (4) enter at $5
         li   $4, 4

@@ -18,7 +18,7 @@ again:  addu $2, $2, $4
         jr   $31
         nop
 
-# Puts the number in $4 on the console, and a line feed behind it. The digits are made from the last one on.
+# Puts the number in $4 on the console, and a line feed after it. The digits are made from the last one on.
 print:  la   $5, end
         li   $8, 10
 digit:  divu $4, $8

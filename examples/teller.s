@@ -2,7 +2,7 @@
 # It shares no page, word or mask with anybody.
 start:  la   $16, sentence
         li   $17, 0             # how many pages it holds
-letter: lbu  $18, 0($16)        # so many are to be held
+letter: lbu  $18, 0($16)        # that many are to be held
         addiu $16, $16, 1
 hold:   slt  $8, $17, $18
         bne  $8, $0, more
@@ -18,7 +18,7 @@ hold:   slt  $8, $17, $18
         li   $4, 0
         syscall
 
-more:   li   $2, 3              # alloc: the lowest free page. Nobody else allocates, so it is the one behind its last
+more:   li   $2, 3              # alloc: the lowest free page. Nobody else allocates, so it is the one after its last
         li   $4, -1
         syscall
         addu $19, $3, $0        # its last page

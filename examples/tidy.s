@@ -15,7 +15,7 @@ loop:   addiu $2, $2, 1
         li   $2, 2              # exit
         syscall
 
-# Where the program goes on is in $26; what it had there stands at 0x1050. The handler keeps all that it changes.
+# Where the program goes on is in $26; what it had there is at 0x1050. The handler keeps all that it changes.
 ended:  addiu $29, $29, -20
         sw   $2, 0($29)
         sw   $3, 4($29)

@@ -1,8 +1,8 @@
 # A kernel for the bare board, in eight steps (docs/BARE.md): two user programs take turns, and print.
 # The board has the text from 0x80000100 on, and the assembler counts labels from 0x00400000: an address here is label+0x7fc00100.
 .equ current, 0xf0              # at 0x800000f0: the frame of the program that runs
-.equ other, 0x100               # the second frame stands so far behind the first
-# In a frame $n stands at 4n, and behind the registers:
+.equ other, 0x100               # the second frame is that far after the first
+# In a frame $n is at 4n, and after the registers:
 .equ hi_at, 0x80
 .equ lo_at, 0x84
 .equ epc, 0x88
@@ -130,7 +130,7 @@ refill: mfc0 $26, $4
         tlbwr
         jr   $27
         rfe
-        .space 100              # up to the second vector, 0x80 behind
+        .space 100              # up to the second vector, 0x80 further on
         la   $26, general+0x7fc00100
         jr   $26
         nop

@@ -14,8 +14,8 @@
 #
 # When it looks
 #
-#   At the start of each slice, which is early enough: the deadline is two quanta behind the call, and whoever calls yields. And
-#   before it yields itself, and behind each exception, since in the midst of one a start leaves the table alone.
+#   At the start of each slice, which is early enough: the deadline is two quanta after the call, and whoever calls yields. And
+#   before it yields itself, and after each exception, since in the midst of one a start leaves the table alone.
 #
 # How the kernel protects
 #
@@ -189,7 +189,7 @@ miss:   andi $8, $10, mapped
         ori  $10, $10, mapped
 
 wait:   li   $8, again
-        bne  $2, $8, give_up    # none is free, and there is nobody to ask
+        bne  $2, $8, give_up    # no page is free, and there is nobody to ask
         move $10, $0
         lw   $8, waits($0)
         jal  give               # it may be asked itself
@@ -271,7 +271,7 @@ resume: lw   $2, kept_at_start($0)
 give:   lw   $7, outstanding($0)
         sw   $0, outstanding($0) # from here on each request is another one. The kernel counts by itself
         beq  $7, $0, given
-        ori  $11, $0, pages     # so many entries are looked at, each once
+        ori  $11, $0, pages     # that many entries are looked at, each once
 look:   lw   $6, hand($0)
         la   $5, table
         addu $5, $5, $6
@@ -299,7 +299,7 @@ given:  jr   $31
         nop
 
 # --- The console --------------------------------------------------------------------------------------------------------
-# Puts the number $4 in decimal, and behind it the character $5. The digits are made from the last one on.
+# Puts the number $4 in decimal, and after it the character $5. The digits are made from the last one on.
 
 print:  la   $6, behind
         sb   $5, 0($6)

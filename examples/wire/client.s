@@ -100,7 +100,7 @@ call:   move $22, $31
         jr   $22
         nop
 
-# Waits for a frame of the letter $8: $2 is 1, $3 its number, $4 its name and $5 the name behind that. $2 is 0 if none came for
+# Waits for a frame of the letter $8: $2 is 1, $3 its number, $4 its name and $5 the name after that. $2 is 0 if none came for
 # too long.
 receive: li  $2, 21             # clock
         syscall
@@ -118,7 +118,7 @@ wait:   lw   $2, 0($16)         # the packet's length, or 0
         nop
         jr   $31                # $2 is 0
         nop
-came:   lbu  $2, 18($16)        # what it is, four bytes behind the length
+came:   lbu  $2, 18($16)        # what it is, four bytes after the length
         lbu  $3, 19($16)
         lw   $4, 20($16)
         lw   $5, 24($16)

@@ -11,7 +11,7 @@ again:  la   $17, first
         li   $18, frames
 next:   li   $2, 19             # send
         move $4, $17
-        lbu  $5, 20($17)        # its length stands behind it
+        lbu  $5, 20($17)        # its length is after it
         syscall
         addiu $17, $17, 24
         addiu $18, $18, -1

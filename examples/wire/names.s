@@ -54,7 +54,7 @@ wait:   lw   $8, 0($16)         # the packet's length, or 0
         b    wait
         nop
 
-told:   lbu  $8, 18($16)        # what it says, its number and its name: they stand four bytes behind the length
+told:   lbu  $8, 18($16)        # what it says, its number and its name: they begin four bytes after the length
         lbu  $9, 19($16)
         lw   $10, 20($16)
         ori  $11, $0, you
