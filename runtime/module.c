@@ -267,6 +267,15 @@ long write(int descriptor, const byte *bytes, size count) {
   return (long)count;
 }
 
+/* By this name main writes why it refuses a processor, which doesn't come to pass. */
+long __write(int descriptor, const byte *bytes, size count) { return write(descriptor, bytes, count); }
+
+/* Whether the processor has what native code needs: yes, since this code is none. */
+const u32 *__x86_get_cpuid_feature_leaf(u32 leaf) {
+  static const u32 all[8] = {~0u, ~0u, ~0u, ~0u, ~0u, ~0u, ~0u, ~0u};
+  return (void)leaf, all;
+}
+
 /* A signal that is to be ignored never comes. */
 size __sysv_signal(int number, size handler) { return (void)number, (void)handler, 0; }
 

@@ -1,5 +1,5 @@
 /* Where the native program begins on Linux for x86-64, so that it runs with each glibc from 2.14 on: the C library's own
-   start-up object asks for 2.34, and its `statx` for 2.28. */
+   start-up object asks for 2.34, its `statx` for 2.28, and what it tells of the processor for 2.33. */
 
 /* The C library's start, by the name that each of its versions has. */
 __asm__(".symver __libc_start_main, __libc_start_main@GLIBC_2.2.5");
@@ -45,4 +45,20 @@ int statx(int directory, const char *path, int flags, unsigned mask, void *to) {
   if (answer >= 0 || answer < -HIGHEST_ERROR) return (int)answer;
   *__errno_location() = (int)-answer;
   return -1;
+}
+
+/* What the processor has, in the form of <sys/platform/x86.h>: registers of CPUID, first as it answers and then what is
+   usable. The program asks for instructions of its second level alone, which need nothing of the system. */
+typedef struct {
+  unsigned answered[4], usable[4];
+} Features;
+
+const Features *__x86_get_cpuid_feature_leaf(unsigned index) {
+  static const unsigned leaves[] = {1, 7, 0x80000001};
+  static Features found, none;
+  if (index >= sizeof leaves / sizeof *leaves) return &none;
+  unsigned *to = found.answered;
+  __asm__("cpuid" : "=a"(to[0]), "=b"(to[1]), "=c"(to[2]), "=d"(to[3]) : "a"(leaves[index]), "c"(0));
+  for (int at = 0; at < 4; at++) found.usable[at] = to[at];
+  return &found;
 }
