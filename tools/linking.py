@@ -97,8 +97,9 @@ class Folder:
         run("clang", f"--target={target}", "--no-default-config", "-no-canonical-prefixes", "-c", *words, tool=self.clang)
 
     def link_native(self, made: str, to: str) -> None:
-        """Links the object file of the program for Linux."""
+        """Links the object file of the program for Linux, and leaves its names out."""
         run(f"{self.kit}/bin/rattle-link", "--target", NATIVE, "--toolchain", self.at, "-o", to, made, f"{self.kit}/c/libos_c.a", f"{self.kit}/c/liblibc_c.a")
+        run("llvm-strip", to, tool=self.clang)
 
     def link_module(self, to: str) -> None:
         """Makes the WebAssembly module of the LLVM module that is kept."""
