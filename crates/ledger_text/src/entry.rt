@@ -20,7 +20,7 @@ const SUM: &[u8] = b"sum";
 
 /// What a line says.
 #[derive(Clone, Copy)]
-pub(crate) enum Entry {
+pub enum Entry {
     /// Nothing of the ledger: a line of this kind.
     Other(LineKind),
     /// How the run ended, and when.

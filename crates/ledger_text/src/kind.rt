@@ -6,7 +6,7 @@ use line_text::{TableRow, find, table_rows};
 
 /// The kind of a line.
 #[derive(Clone, Copy)]
-pub(crate) enum LineKind {
+pub enum LineKind {
     /// None: what stands before the first line.
     Nothing,
     /// `aegis run`.

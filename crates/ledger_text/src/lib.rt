@@ -12,7 +12,9 @@ mod row_names;
 mod rows;
 mod words;
 
+pub use entry::Entry;
 pub use fault::LedgerWhy;
+pub use kind::LineKind;
 pub use laws::law_within;
 pub use ledger::{Ledger, read_ledger};
 pub use plan::{Plan, read_plan};

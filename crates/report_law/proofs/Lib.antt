@@ -1,0 +1,14 @@
+mod Bytes
+mod Numbers
+mod Cuts
+mod Rows
+mod Reading
+mod Sections
+mod Whole
+mod Bounded
+mod Turns
+mod Steps
+mod Ticks
+mod Counts
+mod Names
+mod Runs
