@@ -2,9 +2,9 @@
 
 import { isText } from "./project.js";
 import { counted, utf8 } from "./text.js";
+import { at } from "./window.js";
 
 const LINE = 20, PADDING = 6; // of the sheet, in pixels
-const at = id => document.getElementById(id);
 
 /** A button of a row of tabs. */
 function tab(name, title, action) {

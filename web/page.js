@@ -11,33 +11,12 @@ import { sha256 } from "./sha256.js";
 import { showSteps } from "./step.js";
 import { stepData } from "./steps.js";
 import { fillTables, tables } from "./tables.js";
-import { bytesOfLatin, counted, latin, shown } from "./text.js";
+import { bytesOfLatin, counted, shown } from "./text.js";
 import { told } from "./told.js";
+import { at, bytesShown, frame, save } from "./window.js";
 
-const MOST_SHOWN = 200_000; // bytes of a report or an output that are shown
 const WORDS = ["sources", "ticks", "quantum", "schedule"];
-const at = id => document.getElementById(id);
 const partOf = id => JSON.parse(at(id).textContent);
-
-/** Has the browser keep a file outside of the page. */
-function save(name, bytes) {
-  const link = document.createElement("a");
-  link.href = URL.createObjectURL(new Blob([bytes]));
-  link.download = name;
-  link.click();
-  setTimeout(() => URL.revokeObjectURL(link.href), 10_000);
-}
-
-/** Bytes as they are shown: those of a text, or the first ones as digits. */
-function bytesShown(bytes) {
-  const part = bytes.subarray(0, MOST_SHOWN), text = latin(part);
-  if (/^[\t\n\r -~]*$/.test(text)) return text + (part.length < bytes.length ? `\n.. ${counted(bytes.length - part.length)} bytes more: save has all` : "");
-  const digits = [...bytes.subarray(0, 4096)].map(it => it.toString(16).padStart(2, "0")).join(" ");
-  return `${digits.replace(/(.{47}) /g, "$1\n")}${bytes.length > 4096 ? "\n.. save has all" : ""}`;
-}
-
-/** A frame later, so that the browser shows first what stands there. */
-const shownFrame = () => new Promise(resolve => setTimeout(resolve, 20));
 
 class Page {
   constructor(run, examples) {
@@ -99,6 +78,7 @@ class Page {
     const id = decodeURIComponent(location.hash.slice(1)), example = this.examples.find(it => it.id === id) ?? this.examples[0];
     this.show(project ?? Project.ofKept(id) ?? Project.ofExample(example, this.texts));
     at("command-words").value = example.command ?? "";
+    if (/^(bare|wire) /.test(at("command-words").value)) this.select("command"); // what these show isn't a run of the kernel alone
   }
 
   show(project) {
@@ -188,7 +168,7 @@ class Page {
     const wrong = this.wrongWord();
     if (wrong) return this.say(wrong);
     this.say("running ..");
-    await shownFrame();
+    await frame();
     try {
       return told(this.run, this.project.files, words);
     } catch (why) {
@@ -279,7 +259,7 @@ class Page {
   async command() {
     const text = at("command-words").value.trim();
     at("command-said").textContent = "running ..";
-    await shownFrame();
+    await frame();
     let said;
     try {
       said = perform(this.run, this.project.files, this.found?.workshop.room ?? new Map(), text);

@@ -52,7 +52,8 @@ class Visit:
     def open(self, name: str) -> None:
         """Opens a program of the list."""
         self.value(f"(location.hash = '#{name}', 0)")
-        self.wait(name, f"document.getElementById('examples').value === {json.dumps(name)} && document.getElementById('digest').textContent === ''")
+        self.wait(name, f"document.getElementById('examples').value === {json.dumps(name)}")
+        self.wait(f"{name} before its run", "document.getElementById('digest').textContent === ''")
 
     def run(self) -> str:
         """Runs, and answers the digest of the report, or nothing where it wasn't run."""
@@ -127,8 +128,8 @@ class Visit:
         self.wait("the steps", "!document.getElementById('stepper').hidden")
         for _ in range(4):
             self.browser.key("ArrowRight")
-        self.check("a store", ["00000005", True], self.value("(it => [it?.textContent, it?.parentNode.textContent.startsWith('10000000  00000001 00000005')])"
-                                                               "(document.querySelector('#step-memory .new'))"))
+        self.check("a store", ["00000005", "10000000  00000001 00000005"],
+                   self.value("(it => [it?.textContent, it?.parentNode.textContent.slice(0, 27)])(document.querySelector('#step-memory .new'))"))
         self.browser.key("ArrowLeft")
         self.check("before it", True, self.text("step-memory").startswith("10000000  00000001 00000002"))
         self.browser.key("Escape")
