@@ -8,9 +8,10 @@ from __future__ import annotations
 
 import socket
 import sys
-from typing import Callable, Dict, List, Optional, Set
+from typing import Callable, Dict, List, Optional, Set, Tuple
 
 from knowledge import HI, LO, PC, Change, Unknown
+from limits import PAGE_SIZE
 from programs import say
 from stepper import Stepper
 
@@ -18,6 +19,7 @@ COUNTER, COUNT = 37, 38  # GDB's numbers of registers: after $31 stand status, L
 UNKNOWN = "xxxxxxxx"
 STOPPED = "T05"  # by SIGTRAP
 FEATURES = "PacketSize=4000;ReverseStep+;ReverseContinue+;swbreak-;hwbreak-;vContSupported+"
+WRITE_WATCH = "2"  # the kind of a watchpoint at stores
 READ_ONLY, NOT_KNOWN, FORM = "E01", "E14", "E16"
 MOST_READ = 0x1000
 
@@ -31,9 +33,10 @@ class Session:
     """A debugger's session over a recording. Its place is before the step that is made next."""
 
     breakpoints: Set[int]  # addresses
+    watched: Set[Tuple[int, int]]  # addresses, each with how many bytes
 
     def __init__(self, stepper: Stepper):
-        self.stepper, self.breakpoints = stepper, set()
+        self.stepper, self.breakpoints, self.watched = stepper, set(), set()
         stepper.go(0)
         stepper.known.apply(self.before_next())
 
@@ -106,15 +109,34 @@ class Session:
         return found.hex() or NOT_KNOWN
 
     def set_breakpoint(self, rest: str) -> str:
-        kind, address, _ = rest.split(",", 2)
-        if kind not in ("0", "1"):
+        kind, address, length = rest.split(";")[0].split(",", 2)
+        if kind == WRITE_WATCH:
+            self.watched.add((int(address, 16), int(length, 16)))
+        elif kind in ("0", "1"):
+            self.breakpoints.add(int(address, 16))
+        else:
             return ""
-        self.breakpoints.add(int(address, 16))
         return "OK"
 
     def clear_breakpoint(self, rest: str) -> str:
-        self.breakpoints.discard(int(rest.split(",")[1], 16))
+        kind, address, length = rest.split(",", 2)
+        self.breakpoints.discard(int(address, 16) if kind in ("0", "1") else -1)
+        self.watched.discard((int(address, 16), int(length, 16)) if kind == WRITE_WATCH else (-1, 0))
         return "OK"
+
+    def changed(self, done: int) -> Optional[int]:
+        """The watched address whose bytes the step before this place changed, or the kernel behind it, if any."""
+        if not self.watched:
+            return None
+        steps, recording = self.stepper.steps, self.stepper.recording
+        after = steps[done].kernel if done < len(steps) else recording.tail
+        changes = {it.key for it in steps[done - 1].own + after if isinstance(it.key, tuple) and it.key[0] == "byte"}
+        for address, length in sorted(self.watched) if changes else ():
+            for at in range(address, address + length):
+                bound = self.stepper.known.page_at(at // PAGE_SIZE)
+                if bound is not None and ("byte", bound.page, at % PAGE_SIZE) in changes:
+                    return address
+        return None
 
     def step(self, backwards: bool) -> str:
         done = self.stepper.done + (-1 if backwards else 1)
@@ -126,12 +148,19 @@ class Session:
     def run(self, backwards: bool) -> str:
         steps, done = self.stepper.steps, self.stepper.done
         order = range(done - 1, -1, -1) if backwards else range(done + 1, len(steps))
-        stop = next((it for it in order if steps[it].row.pc in self.breakpoints), None)
-        if stop is None:
-            self.go(0 if backwards else len(steps))
-            return self.at_end(backwards)
-        self.go(stop)
-        return STOPPED
+        for it in [*order, *([] if backwards else [len(steps)])] if self.watched else order:
+            place = it + 1 if backwards else it
+            if self.watched:
+                self.go(place)
+                address = self.changed(place) if place else None
+                if address is not None:
+                    self.go(it)
+                    return f"{STOPPED}watch:{address:x};"
+            if it < len(steps) and steps[it].row.pc in self.breakpoints:
+                self.go(it)
+                return STOPPED
+        self.go(0 if backwards else len(steps))
+        return self.at_end(backwards)
 
     def at_end(self, backwards: bool) -> str:
         return f"{STOPPED}replaylog:{'begin' if backwards else 'end'};"

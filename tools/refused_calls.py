@@ -60,8 +60,8 @@ def refusals(text: str, entries: List[int]) -> List[Refusals]:
     return list(found.values())
 
 
-def refused_calls(machine: Machine, report: Report, env: int) -> List[Refusals]:
-    """The refused calls of an environment, in the ticks that a trace has at most."""
+def trace_text(machine: Machine, report: Report, env: int) -> str:
+    """The trace of an environment, of the ticks that a trace has at most."""
     status, said = aegis("trace", *machine.files(), str(min(report.head.time, MOST_TRACED_TICKS)), str(env), cwd=machine.room)
     if status:
         raise Failed(status, "the program has no command `trace`, so calls that were refused aren't told" if status == USAGE
@@ -69,6 +69,11 @@ def refused_calls(machine: Machine, report: Report, env: int) -> List[Refusals]:
     text = said.decode("latin-1")
     if not text.endswith("done\n"):
         raise Failed(1, "the trace is cut, so calls that were refused aren't told")
+    return text
+
+
+def refused_calls(text: str, report: Report, env: int) -> List[Refusals]:
+    """The refused calls of an environment, by its trace."""
     entries = [it.time for it in report.marks if it.kind in TRANSFERS and int(it.row.split()[4]) == env]
     return refusals(text, entries)
 
