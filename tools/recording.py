@@ -81,6 +81,7 @@ class Step:
     number: Optional[int] = None  # of the call
     code: Optional[int] = None  # of the answer
     console: int = 0  # bytes that were put, with this step's
+    cause: Optional[int] = None  # the code of the exception that it raised, where a handler took it
 
 
 @dataclass
@@ -245,6 +246,8 @@ class Follower:
             known.continue_at(row.pc + 4)
         else:
             self.machine_step(known, row, following, ends)
+            if self.raised and known.registers[AT] is not None:
+                step.cause = known.registers[AT] >> 2 & 31
         if ends and not row.is_dead:
             goes_to_k0 = re.match(r"\S+ \$26\b", row.text) and not is_store(row.word or 0)
             between = None if goes_to_k0 else self.epc if self.raised else before[K0]

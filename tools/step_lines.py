@@ -6,14 +6,18 @@ import re
 from typing import Iterable, Iterator, List, Optional, Tuple
 
 from instructions import is_store
-from knowledge import NAMES, Change, Knowledge, Unknown
+from knowledge import K1, NAMES, Change, Knowledge, Unknown
 from places import Places
 from recording import Step
-from report import CAUSES, Environment, Head
+from report import CAUSES, Environment, Head, Report
 from shown import shown
 from source import without_comment
 
 LARGEST_DECIMAL = 9_999
+# The exceptions by their codes (docs/MACHINE.md), and those with a bad address.
+EXCEPTIONS = {1: "Mod", 2: "TLBL", 3: "TLBS", 4: "AdEL", 5: "AdES", 8: "Sys", 9: "Bp", 10: "RI", 11: "CpU", 12: "Ov"}
+OF_ADDRESSES = range(1, 6)
+MOST_OTHERS = 3  # slices of others that are told between two steps
 
 
 def number_shown(value: Optional[int]) -> str:
@@ -67,10 +71,37 @@ def step_line(step: Step, known: Knowledge, places: Places) -> str:
     """A step: tick, address, label, source, what a call asked and was answered, and what changed. `known` is what is known behind it."""
     row = step.row
     effects = [step.asked + (f" = {step.answered}" if step.answered else "")] if step.asked else []
+    effects += [exception_shown(step, known)] if step.cause is not None else []
     effects += [", ".join(registers_changed(step.own))] + bytes_stored(step, known, places) + (["dead"] if row.is_dead else [])
     told = "; ".join(it for it in effects if it)
     head = f"{row.tick:>6} {row.pc:08x} {places.name(row.pc):<10} {statement(step, places)}"
     return f"{head} -> {told}" if told else head
+
+
+def exception_shown(step: Step, known: Knowledge) -> str:
+    """The exception that a step raised: its name, its code, and the bad address if it has one."""
+    bad = known.registers[K1]
+    where = f" at 0x{bad:08x}" if step.cause in OF_ADDRESSES and bad is not None else ""
+    return f"exception {EXCEPTIONS.get(step.cause, '?')} ({step.cause}){where}, to handler"
+
+
+def between_lines(report: Report, env: int, before: Optional[int], tick: int) -> List[str]:
+    """What happened between two steps of an environment: who ran meanwhile, what it was asked for, and what was taken from it. Before
+    the first step there is no tick."""
+    first = 0 if before is None else before + 1
+    lines = []
+    for it in report.marks:
+        if it.env == env and first <= it.time <= tick and it.kind in ("asked", "take"):
+            words = it.row.split()
+            lines.append(f"-- tick {it.time}: {words[3]} page{'' if words[3] == '1' else 's'} asked for until tick {words[4]} --" if it.kind == "asked"
+                         else f"-- tick {it.time}: page {words[3]} was taken --")
+    if first == tick:
+        return lines
+    others = [it for it in report.slices if it.env != env and it.start < tick and it.end > first]
+    ran = [f"environment {it.env} ran {max(it.start, first)} to {min(it.end, tick) - 1}" for it in others[:MOST_OTHERS]]
+    more = [f"and others until {tick - 1}"] if len(others) > MOST_OTHERS else []
+    stopped = [] if before is None else [f"stopped in tick {before}"]
+    return [f"-- {'; '.join([*stopped, ', '.join(ran + more)])} --" if ran else f"-- {stopped[0] if stopped else 'nobody ran'} --", *lines]
 
 
 def kernel_line(changes: Iterable[Change], tick: Optional[int] = None) -> List[str]:

@@ -6,16 +6,20 @@ import re
 from typing import Callable, Iterator, List, Optional
 
 from knowledge import NAMES
+from limits import PAGE_SIZE
 from places import Places
 from recording import Recording, Step
 from report import Environment
 from source import number, register
-from step_lines import console_at, ending, kernel_line, memory_lines, register_table, step_line
+from step_lines import between_lines, console_at, ending, kernel_line, memory_lines, register_table, step_line
 
 HELP = """next [N], back [N]         a step, or N of them
 tick T                     to the last step that was made in tick T or before
 call, reg NAME, line N     to the next kernel call; the next change of a register, as $t0 or hi; the next step at a line,
-                           N or FILE:N. Behind `back` each goes backwards
+                           N or FILE:N
+miss, slice, watch ADDRESS to the next exception that a handler took; the next start of a slice; the next change of the word at an
+                           address or a label. After `back` each of the six goes backwards
+env N                      to the same tick of another environment
 start, end                 before the first step, and to the last one
 regs, console              all registers; the console as it stands
 x ADDRESS [N]              N words of memory from an address or a label on
@@ -26,8 +30,8 @@ SHORT = {"n": "next", "b": "back", "t": "tick", "c": "call", "r": "reg", "l": "l
 class Stepper:
     """A place in a recording: behind so many of its steps, with what is known there."""
 
-    def __init__(self, recording: Recording, places: Places):
-        self.recording, self.places = recording, places
+    def __init__(self, recording: Recording, places: Places, other: Optional[Callable[[int], "Stepper"]] = None):
+        self.recording, self.places, self.other = recording, places, other
         self.steps = recording.steps
         self.known = recording.boot()
         self.done = 0
@@ -59,7 +63,9 @@ class Stepper:
         step = self.last
         if step is None:
             return ["before the first step"]
-        return kernel_line(step.kernel) + [step_line(step, self.known, self.places)]
+        before = self.steps[self.done - 2].row.tick if self.done > 1 else None
+        happened = between_lines(self.recording.report, self.recording.number, before, step.row.tick)
+        return happened + kernel_line(step.kernel) + [step_line(step, self.known, self.places)]
 
     def tick_place(self, tick: int) -> int:
         """How many steps were made up to a tick, with that of the tick."""
@@ -123,6 +129,35 @@ class Stepper:
 
     def do_call(self, _rest: List[str], backwards: bool) -> Iterator[str]:
         return self.sought(lambda it: bool(it.asked), backwards, "kernel call")
+
+    def do_miss(self, _rest: List[str], backwards: bool) -> Iterator[str]:
+        return self.sought(lambda it: it.cause is not None, backwards, "exception that a handler took")
+
+    def do_slice(self, _rest: List[str], backwards: bool) -> Iterator[str]:
+        starts = {it.start for it in self.recording.report.slices if it.env == self.recording.number}
+        firsts = {id(step) for before, step in zip([None, *self.steps], self.steps)
+                  if any(at in starts for at in range(before.row.tick + 1 if before else 0, step.row.tick + 1))}
+        return self.sought(lambda it: id(it) in firsts, backwards, "start of a slice")
+
+    def do_watch(self, rest: List[str], backwards: bool) -> Iterator[str]:
+        address = self.address_of(rest[0])
+        bound = None if address is None else self.known.page_at(address // PAGE_SIZE)
+        if bound is None or bound.page is None:
+            return iter([f"at {rest[0]} is no page of which all stores are known"])
+        keys = {("byte", bound.page, address % PAGE_SIZE // 4 * 4 + at) for at in range(4)}
+        return self.sought(lambda it: any(change.key in keys for change in it.kernel + it.own), backwards, f"change of the word at {rest[0]}")
+
+    def do_env(self, rest: List[str], _backwards: bool) -> Iterator[str]:
+        """Goes to the same tick of another environment."""
+        number = int(rest[0])
+        if self.other is None or number >= len(self.recording.report.head.environments):
+            yield f"there is no environment {number}: the last one is {len(self.recording.report.head.environments) - 1}"
+            return
+        tick = self.last.row.tick if self.last else -1
+        self.__dict__.update(self.other(number).__dict__)
+        yield f"-- {number} {self.environment.name} --"
+        self.go(self.tick_place(tick))
+        yield from self.lines()
 
     def do_reg(self, rest: List[str], backwards: bool) -> Iterator[str]:
         place = register_of(rest[0])
