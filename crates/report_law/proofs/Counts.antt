@@ -39,10 +39,6 @@ nobody : (o : Option ℕ) (turn time n : ℕ) → is_none o ≡ true → n ≤ s
 nobody None turn time n is few = few
 nobody (Some who) turn time n is few = cc
 
-still_nobody : (o : Option ℕ) (turn time n : ℕ) → is_none o ≡ true → n ≤ turn → n ≤ started o turn time
-still_nobody None turn time n is few = few
-still_nobody (Some who) turn time n is few = cc
-
 more_most : (b : Bool) (n m : ℕ) → n + 1 ≤ m → more_if b n ≤ m
 more_most true n m less = less
 more_most false n m less = omega (arith, less)

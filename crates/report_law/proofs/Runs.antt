@@ -15,7 +15,7 @@ use Rattle.ledger_rules.specs.LedgerState.{LedgerState, first_state, state_after
 use Rattle.ledger_text.specs.Limits.{most_number}
 use Rattle.ledger_audit.specs.Answer.{is_sum, rows_of}
 use Rattle.ledger_law.specs.LedgerLaw.{RowsFit, RunsAreClean}
-use Rattle.report_law.specs.ReportLaw.{AreEventsWithin, ReportsAreClean, ReportsAreRead, sum_of}
+use Rattle.report_law.specs.ReportLaw.{AreEventsWithin, ReportsAreClean, ReportsAreRead, tally_of}
 use Rattle.report_law.proofs.Bounded.{AllSmall}
 use Rattle.report_law.proofs.Counts.{IsCounted, overs_told, pays_told, rows_counted, runs_told, started}
 use Rattle.report_law.proofs.Names.{run_named}
@@ -44,7 +44,7 @@ few_of rows end e soon c = (
   omega (arith, soon, c.within, c.grace, c.overs e, overs_told e first_state rows),
 )
 
-right_sum : (rows : List Row) (e : ℕ) → is_sum (state_after rows) e (sum_of rows e) ≡ true
+right_sum : (rows : List Row) (e : ℕ) → is_sum (state_after rows) e (tally_of rows e) ≡ true
 right_sum rows e =
     let s = state_after rows in
     let runs = count_by (is_run_of e) rows in
@@ -84,10 +84,10 @@ reports_read granted fold licensed fit system limit accepted events soon =
         rows = rows;
         time = read.has.time;
         idle = read.has.idle;
-        sums = sums_right (state_after (rows_of read.ledger.rows)) (sum_of w.rows)
-            (λ e. subst (λ (rs : List Row). is_sum (state_after rs) e (sum_of w.rows e) ≡ true) (sym rows) (right_sum w.rows e)) w.count read.ledger.sums read.has.sums;
+        sums = sums_right (state_after (rows_of read.ledger.rows)) (tally_of w.rows)
+            (λ e. subst (λ (rs : List Row). is_sum (state_after rs) e (tally_of w.rows e) ≡ true) (sym rows) (right_sum w.rows e)) w.count read.ledger.sums read.has.sums;
       };
-      sums = read.has.sums ∙ ap (listed (sum_of w.rows)) (count_is system limit);
+      sums = read.has.sums ∙ ap (listed (tally_of w.rows)) (count_is system limit);
     }
 
 -- and so it is found clean

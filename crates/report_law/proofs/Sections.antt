@@ -105,9 +105,6 @@ out_ends : (last : LineKind) → is_kind_out last ≡ true → ends_env last ≡
 out_ends kind.Out is = refl
 out_ends last is = cc
 
-same_kind : (P : LineKind → Bool) (last : LineKind) → P last ≡ true → P last ≡ true
-same_kind P last is = is
-
 abbrev pub starts_env : LineKind → Bool
 starts_env last = is_kind_end last || ends_env last
 

@@ -31,7 +31,7 @@ use Rattle.ledger_text.specs.Within.{IsEnv, IsTime}
 use Rattle.ledger_text.specs.Words.{spaced_words}
 use Rattle.ledger_audit.specs.Answer.{first_wrong_sum, is_sum, rows_of}
 use Rattle.ledger_law.specs.LedgerLaw.{says_idle}
-use Rattle.report_law.specs.ReportLaw.{sum_of, values_of}
+use Rattle.report_law.specs.ReportLaw.{tally_of, values_of}
 use Rattle.report_law.proofs.Bytes.{AtLeast, both}
 use Rattle.report_law.proofs.Cuts.{line_then, words_cut, words_plain}
 use Rattle.report_law.proofs.Numbers.{if_all, then_read}
@@ -88,9 +88,9 @@ words_solid rows e = (dec_solid e, (dec_solid (count_by (is_run_of e) rows), (de
 sum_plain : (rows : List Row) (e : ℕ) → AtLeast 32 (sum_body rows e)
 sum_plain rows e = both 32 (codes "sum") (flat_map spaced (sum_words rows e)) refl (words_plain (sum_words rows e) (solid_plain (sum_words rows e) (words_solid rows e)))
 
-sum_line_said : (last : LineKind) (rows : List Row) (e : ℕ) → before_sum last ≡ true → IsEnv e → AreFew rows e → line_said last (sum_body rows e) ≡ Ok (entry.Sum (sum_of rows e))
+sum_line_said : (last : LineKind) (rows : List Row) (e : ℕ) → before_sum last ≡ true → IsEnv e → AreFew rows e → line_said last (sum_body rows e) ≡ Ok (entry.Sum (tally_of rows e))
 sum_line_said last rows e follows who (runs, pays, overs) =
-    known_line last kind.Sum (sum_body rows e) (entry.Sum (sum_of rows e)) refl follows refl
+    known_line last kind.Sum (sum_body rows e) (entry.Sum (tally_of rows e)) refl follows refl
     (ap sum_form (words_cut (codes "sum") (sum_words rows e) refl (words_solid rows e))
     ∙ sum_read e (count_by (is_run_of e) rows) (count_by (is_pay_of e) rows) (count_by (is_over_of e) rows) who runs pays overs)
 
@@ -98,12 +98,12 @@ abbrev with_sums : Known → List (List ℕ) → Known
 with_sums k sums = record k { sums = k.sums ++ sums }
 
 sums_at : (last : ℕ) (from : Result LedgerValue (LineFault LedgerWhy)) (k : Known) (rows : List Row) (n : ℕ) (rest : List ℕ) → n ≤ 32 → ((e : ℕ) → AreFew rows e)
-    → At last from before_sum k (for_each (sum_line rows) n ++ rest) → At last from before_sum (with_sums k (listed (sum_of rows) n)) rest
+    → At last from before_sum k (for_each (sum_line rows) n ++ rest) → At last from before_sum (with_sums k (listed (tally_of rows) n)) rest
 sums_at last from k rows zero rest few each at = subst (λ (sums : List (List ℕ)). At last from before_sum (record k { sums = sums }) rest) (sym (append-nil k.sums)) at
 sums_at last from k rows (suc n) rest few each at =
     let before = for_each (sum_line rows) n in
-    let l = with_sums k (listed (sum_of rows) n) in
-    let m = record l { sums = l.sums ++ sum_of rows n ∷ [] } in
+    let l = with_sums k (listed (tally_of rows) n) in
+    let m = record l { sums = l.sums ++ tally_of rows n ∷ [] } in
     let moved : At last from before_sum k (before ++ (sum_line rows n ++ rest)) =
     rest_is last from before_sum k ((before ++ sum_line rows n) ++ rest) (before ++ (sum_line rows n ++ rest)) (append_assoc before (sum_line rows n) rest) at in
     let there = sums_at last from k rows n (sum_line rows n ++ rest) (omega (arith, few)) each moved in
@@ -111,15 +111,15 @@ sums_at last from k rows (suc n) rest few each at =
     rest_is last from before_sum l (sum_line rows n ++ rest) (sum_body rows n ++ 10 ∷ rest)
     (ap (λ (text : List ℕ). text ++ rest) (sum_line_is rows n) ∙ append_assoc (sum_body rows n) (10 ∷ []) rest) there in
     let next : At last from before_sum m rest =
-    step_at last from before_sum before_sum l m (sum_body rows n) rest (entry.Sum (sum_of rows n)) (sum_plain rows n)
+    step_at last from before_sum before_sum l m (sum_body rows n) rest (entry.Sum (tally_of rows n)) (sum_plain rows n)
     (λ prior follows. sum_line_said prior rows n follows (omega (arith, few)) (each n)) refl
     (λ number ledger has. record {
       idle = has.idle;
       time = has.time;
       rows = has.rows;
-      sums = values_more ledger.sums number (sum_of rows n) ∙ ap (λ (xs : List (List ℕ)). xs ++ sum_of rows n ∷ []) has.sums;
+      sums = values_more ledger.sums number (tally_of rows n) ∙ ap (λ (xs : List (List ℕ)). xs ++ tally_of rows n ∷ []) has.sums;
     }) here in
-    subst (λ (sums : List (List ℕ)). At last from before_sum (record k { sums = sums }) rest) (append_assoc k.sums (listed (sum_of rows) n) (sum_of rows n ∷ [])) next
+    subst (λ (sums : List (List ℕ)). At last from before_sum (record k { sums = sums }) rest) (append_assoc k.sums (listed (tally_of rows) n) (tally_of rows n ∷ [])) next
 
 -- the title
 abbrev nothing : Known
@@ -197,7 +197,7 @@ row_sum last is = is
 
 -- what a world's report has
 abbrev pub known_of : World → RunEnd → Known
-known_of w how = record { idle = says_idle how; time = w.book.time; rows = w.rows; sums = listed (sum_of w.rows) w.count }
+known_of w how = record { idle = says_idle how; time = w.book.time; rows = w.rows; sums = listed (tally_of w.rows) w.count }
 
 pub record IsShown (w : World) : Type 0 where
   pub time : IsTime w.book.time

@@ -24,8 +24,8 @@ abbrev pub written : System → ℕ → List ℕ
 written system limit = let w = world_after system limit in report_text w (end_of_run w limit)
 
 -- an environment, and how many of these rows are its runs, pays and overs
-abbrev pub sum_of : List Row → ℕ → List ℕ
-sum_of rows e = e ∷ count_by (is_run_of e) rows ∷ count_by (is_pay_of e) rows ∷ count_by (is_over_of e) rows ∷ []
+abbrev pub tally_of : List Row → ℕ → List ℕ
+tally_of rows e = e ∷ count_by (is_run_of e) rows ∷ count_by (is_pay_of e) rows ∷ count_by (is_over_of e) rows ∷ []
 
 -- things without the numbers of their lines
 abbrev pub values_of : {X : Type 0} → List (ℕ × X) → List X
@@ -37,7 +37,7 @@ pub record IsRead (system : System) (limit : ℕ) : Type 0 where
   pub ledger : LedgerValue
   pub read : ledger_read (written system limit) ≡ Ok ledger
   pub of_run : IsOfRun system limit ledger
-  pub sums : let w = world_after system limit in values_of ledger.sums ≡ listed (sum_of w.rows) (length system.image.programs)
+  pub sums : let w = world_after system limit in values_of ledger.sums ≡ listed (tally_of w.rows) (length system.image.programs)
 
 -- So it is for every image within its limits, every schedule of events within theirs, and every limit that a run may have.
 abbrev pub ReportsAreRead : Type 0
