@@ -4,8 +4,11 @@ from __future__ import annotations
 
 from typing import Any, Dict
 
+import faults
+import flow
 import kernel_calls
 import limits
+import manifests
 import refusals
 import source
 from knowledge import NAMES
@@ -34,6 +37,9 @@ def of_sources() -> Dict[str, Any]:
         "loads": sorted(source.LOADS), "signed": sorted(source.SIGNED), "instead": refusals.INSTEAD, "ofRegisters": sorted(refusals.OF_REGISTERS),
         "withNumber": refusals.WITH_NUMBER, "nothingFor": refusals.NOTHING_FOR, "characters": refusals.CHARACTERS,
         "leftOut": sorted(refusals.LEFT_OUT), "forms": refusals.FORMS, "spim": LINT.SPIM,
+        "ofSpim": {"byName": LINT.BY_NAME, "ofPages": LINT.OF_PAGES, "ofLengths": LINT.OF_LENGTHS}, "sections": faults.SECTIONS,
+        "flow": {"links": sorted(flow.LINKS), "branches": sorted(flow.ALL_BRANCHES), "noResult": sorted(flow.NO_RESULT)},
+        "manifest": {"lines": manifests.LINES, "forms": manifests.FORMS, "order": manifests.ORDER},
     }
 
 

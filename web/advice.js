@@ -29,7 +29,7 @@ function redefined(source, said) {
 /** What is wrong with a line of a schedule that is refused for `why`, as far as it can be told. */
 export function eventAdvice(why, line) {
   const odd = STRANGE.exec(line), words = wordsOf(line), { limits } = tables;
-  if (odd) return `The line has the character ${wide(odd[0], line)}: a schedule is plain ASCII, in comments too.`;
+  if (odd) return `The line has the character ${wide(odd[0], line)}: outside of comments a schedule is plain ASCII.`;
   if (why === "Syntax") {
     return words.length > 3 && words[1] === "packet" ? "The bytes of a packet stand without blanks between them."
       : "An event is `TIME packet BYTES`, `TIME line NUMBER` or `TIME revoke ENV COUNT GRACE`.";
@@ -100,7 +100,7 @@ function syntax(source, said) {
 /** What no line may have. */
 function ofTheLine(said) {
   const line = said.text.split("#")[0], odd = STRANGE.exec(said.text);
-  if (odd) return `The line has the character ${wide(odd[0], said.text)}: a source is plain ASCII, in comments too.`;
+  if (odd) return `The line has the character ${wide(odd[0], said.text)}: outside of comments a source is plain ASCII.`;
   if (line.split('"').length % 2 === 0 && line.split('\\"').length % 2) return "The quoted text doesn't end in this line.";
   const bare = line.replace(/"(?:[^"\\]|\\.)*"/g, '""');
   if (bare.includes(";")) return "`;` has no meaning here: a comment begins with `#`, and each statement has a line of its own.";

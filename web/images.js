@@ -2,11 +2,10 @@
 // is made of programs, by the program.
 
 import { meaning } from "./advice.js";
+import { manifestAdvice } from "./manifests.js";
 import { tables } from "./tables.js";
 import { counted, quoted, wordsOf } from "./text.js";
 
-const FORMS = "version N`, which may be left out, `pages N`, `quantum N`, `slots X ..`, and then `env NAME elf STACK ACCEPT FILE` "
-  + "or `env NAME flat BASE STACK ACCEPT FILE";
 const FIRST_SLOT = 16; // the byte of an image in which the owner of slot 0 stands
 
 /** The lines that say it, and the manifest's line. `made` are programs of which it is made, `content` a file's bytes. */
@@ -36,13 +35,7 @@ export function badImage(shown, lines, why, place, made, content) {
 }
 
 function badManifest(shown, lines, why, place) {
-  const text = lines[place - 1] ?? "", { limits } = tables;
-  const advice = {
-    Syntax: `${text.trim() ? "" : "The manifest ends too early. "}The lines are, in this order, \`${FORMS}\`.`,
-    Range: `Numbers are decimal or begin with \`0x\`; \`version\` is 1 or 2; \`pages\` is at least ${limits.leastPages}, and at most `
-      + `${limits.mostPages}; \`quantum\` is ${limits.leastQuantum} to ${counted(limits.mostQuantum)}, a stack 0 to ${limits.stackPages} pages; `
-      + "a name has one to eight of `a` to `z`, `0` to `9` and `_`.",
-  }[why];
+  const text = lines[place - 1] ?? "", advice = manifestAdvice(why, lines, place);
   return { lines: [`${shown}:${place}: ${why}: ${meaning("manifest", why)}.`, ...quoted(text), ...(advice ? [advice] : [])], line: place };
 }
 

@@ -1,11 +1,13 @@
 // Warns of what assembles and is seldom meant, as tools/lint does.
 
+import { Flow } from "./flow.js";
 import { register } from "./source.js";
 import { tables } from "./tables.js";
 import { address, decoded } from "./text.js";
 
 const isJump = it => tables.branches.includes(it) || tables.jumps.includes(it);
 const ZERO = ["$0", "$zero"];
+const FIRST = 4, LENGTH = 5; // registers of arguments
 
 /** What can't stand behind a branch or jump. */
 function* inSlots(source) {
@@ -41,26 +43,43 @@ function* lowHalves(source) {
   }
 }
 
-/** Calls by SPIM's numbers, where the number is loaded to `$v0`, or where `$4` is a label's address and the call wants a number. */
+/** Whether a call is SPIM's: by the register's name, by a label's address where a number is expected, or by what is unset. */
+function isSpim(value, loaded, first, unset, source) {
+  const { byName, ofPages, ofLengths } = tables.ofSpim, isV0 = loaded.operands[0] === "$v0";
+  if (ofLengths.includes(value)) return unset.includes(LENGTH) && (value === 1 || isV0);
+  const isLabel = (ofPages.includes(value) || value === 8) && source.labels.has(first);
+  return isLabel || byName.includes(value) && isV0 || ofPages.includes(value) && unset.includes(FIRST);
+}
+
+/** Calls by SPIM's numbers. */
 function* spimCalls(source) {
-  let loads = [], first = "";
-  for (const it of source.instructions()) {
+  const flow = new Flow(source), without = [FIRST, LENGTH].map(number => [number, flow.unset(number)]);
+  let called = [], first = "";
+  for (const [at, it] of flow.order.entries()) {
     const written = it.operands[0]?.startsWith("$") ? register(it.operands[0].replace(/^\$+/, "")) : undefined;
     if (["li", "ori", "addi", "addiu"].includes(it.operation) && written === 2) {
       const value = source.value(it.operands.at(-1));
-      const isMeant = value in tables.spim && it.operation === "li" || value in tables.spim && it.operands.length > 1 && ZERO.includes(it.operands[1]);
-      loads = isMeant ? [[it, value]] : [];
-    } else if (written === 4) {
+      const isMeant = value in tables.spim && (it.operation === "li" || it.operands.length > 1 && ZERO.includes(it.operands[1]));
+      called = isMeant ? [[it, value]] : [];
+    } else if (written === FIRST) {
       first = it.operation === "la" ? it.operands.at(-1) : "";
     } else if (it.operation === "syscall") {
-      for (const [loaded, value] of loads) {
-        if (loaded.operands[0] !== "$v0" && !((value === 4 || value === 8) && source.labels.has(first))) continue;
+      const unset = without.filter(([, places]) => places.has(at)).map(([number]) => number);
+      for (const [loaded, value] of called) {
+        if (!isSpim(value, loaded, first, unset, source)) continue;
         const [there, here, instead] = tables.spim[value];
         yield [loaded, `call ${value} ${there} in SPIM, and here it ${here}: ${instead}`];
       }
-      loads = [];
-      first = "";
+      called = [];
     }
+  }
+}
+
+/** Calls in a function that doesn't keep the address to which it goes back. */
+function* lostReturns(source) {
+  for (const [call, jump] of new Flow(source).lostReturns()) {
+    yield [call, `\`${call.operation}\` sets \`$31\`, and so the \`${jump.operation} ${jump.operands[0]}\` of line ${jump.line} goes back to here: a `
+      + "function that calls another keeps `$31` on the stack"];
   }
 }
 
@@ -123,7 +142,7 @@ function* takenRegisters(source) {
 
 /** The lines that warn of a source, in the order of its lines. */
 export function warnings(path, source) {
-  const found = [inSlots, withoutStart, lowHalves, spimCalls, takenRegisters].flatMap(way => [...way(source)]);
+  const found = [inSlots, withoutStart, lowHalves, spimCalls, lostReturns, takenRegisters].flatMap(way => [...way(source)]);
   found.sort((one, two) => one[0].line - two[0].line);
   return found.flatMap(([it, says]) => [`${path}:${it.line}: ${says}`, `    ${decoded(it.text).trim()}`]);
 }

@@ -2,6 +2,7 @@
 
 import { NAME, register } from "./source.js";
 import { tables } from "./tables.js";
+import { ofAValue } from "./values.js";
 
 const COUNTS = ["no operands", "one operand", "two operands", "three operands"];
 
@@ -22,7 +23,7 @@ export function ofTheOperands(source, said) {
   }
   if (!operands.length && form.endsWith("*")) return `\`${name}\` has one value or more.`;
   for (const [at, operand] of operands.entries()) {
-    const kind = form.endsWith("*") ? kinds[at] ?? "*" : form[at];
+    const kind = form.endsWith("*") ? kinds[at] ?? kinds.at(-1) : form[at];
     const found = kind === undefined ? null : ofAnOperand(name, kind, operand, operands);
     if (found) return found;
   }
@@ -56,10 +57,7 @@ function ofAnOperand(name, kind, operand, operands) {
   if (kind !== "n" && kind !== "b") return null;
   if (/0b[01]+|[0-9]_[0-9]/.test(operand)) return `\`${operand}\` isn't a number here: numbers are decimal, or hexadecimal with \`0x\`.`;
   if (/^-0x/.test(operand)) return "A hexadecimal number has no sign: write it in decimal, or as its 32 bits.";
-  if (/[*/|&<>]|[0-9]\s*[+]|\+\s*[A-Za-z_]/.test(operand)) {
-    return `\`${operand}\` isn't an expression here: that is a number, a name, or a name and \`+\` or \`-\` and a number.`;
-  }
-  return null;
+  return ofAValue(operand);
 }
 
 /** Something else where a register is due. */

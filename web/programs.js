@@ -1,7 +1,8 @@
 // Programs of a run, as tools/programs.py makes them: of sources in assembly or of ELF files, packed into an image by a manifest, and
 // run by a schedule. Files are the page's; what is made of them is kept in a room, a Map of names and bytes.
 
-import { advice, eventAdvice, meaning } from "./advice.js";
+import { eventAdvice, meaning } from "./advice.js";
+import { faultsOf, plain } from "./faults.js";
 import { badImage } from "./images.js";
 import { warnings } from "./lint.js";
 import { Report } from "./report.js";
@@ -36,7 +37,7 @@ export function refusal(output) {
 /** Makes programs and images of files, and runs them. `run` is a command of the module: `(words, files)`. */
 export class Workshop {
   constructor(run, files) {
-    Object.assign(this, { command: run, files, room: new Map(), said: [], programs: [], schedule: null });
+    Object.assign(this, { command: run, files, room: new Map(), said: [], warned: new Set(), programs: [], schedule: null });
   }
 
   /** Runs a command over the files of the room and of the page that its words or its manifest name. */
@@ -61,17 +62,22 @@ export class Workshop {
 
   /** The program of a source in assembly, which is linted first. */
   assembled(path, name) {
-    const source = readSource(latin(this.content(path)));
-    this.said.push(...warnings(path, source)); // of a source with a fault too: it may be the fault
-    const { status, output } = this.command(["asm", path], new Map([[path, this.content(path)]]));
+    const text = this.content(path), source = readSource(latin(text));
+    if (!this.warned.has(path)) this.said.push(...warnings(path, source)); // of a source with a fault too: it may be the fault
+    this.warned.add(path);
+    const { status, output } = this.asm(plain(text));
     if (status === REFUSED) {
-      const [why, line] = refusal(output), text = source.statements.find(it => it.line === line)?.text ?? "";
-      const more = advice(why, source, text);
-      throw new Failed(REFUSED, [`${path}:${line}: ${why}: ${meaning("source", why)}.`, ...quoted(text), ...(more ? [more] : [])], path, line);
+      const { lines, line } = faultsOf(path, text, it => (said => said.status === REFUSED ? refusal(said.output) : null)(this.asm(bytesOfLatin(it))));
+      throw new Failed(REFUSED, lines, path, line);
     }
     if (status) throw new Failed(status, [`${path}: \`asm\` ended with ${status}`]);
     this.room.set(`${name}.elf`, output);
     return { name, shown: path, elf: `${name}.elf`, file: output, source, isMade: true, listing: new Map() };
+  }
+
+  /** Assembles a text. */
+  asm(text) {
+    return this.command(["asm", "text.s"], new Map([["text.s", text]]));
   }
 
   /** The program of an ELF file. */
@@ -113,7 +119,7 @@ export class Workshop {
 
   /** The programs of a manifest, whose files are the page's, or are made of its sources. */
   fromManifest(path) {
-    const text = this.content(path), made = new Map();
+    const text = plain(this.content(path)), made = new Map();
     this.room.set("try.txt", text);
     for (const line of latin(text).split("\n")) {
       const words = wordsOf(line), file = words.at(-1);
@@ -165,7 +171,7 @@ export class Workshop {
     else this.fromSources(sources, quantum);
     this.pack(isManifest ? sources[0] : NO_MANIFEST);
     this.schedule = schedule || null;
-    this.room.set("try.sch", schedule ? this.content(schedule) : new Uint8Array(0));
+    this.room.set("try.sch", schedule ? plain(this.content(schedule)) : new Uint8Array(0));
   }
 
   /** Makes the image of the manifest, which is shown as this file. */

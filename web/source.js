@@ -3,6 +3,7 @@
 import { tables } from "./tables.js";
 
 export const TEXT = 0x00400000, DATA = 0x10000000;
+export const MARK = "\xef\xbb\xbf"; // that some editors put before a text in UTF-8, a character for each byte
 export const NAME = "[A-Za-z_.][A-Za-z0-9_.]*";
 const WORD = 2n ** 32n;
 const LABEL = new RegExp(`^(${NAME}):`), SUM = new RegExp(`^(${NAME})(?:([+-])(-?[0-9]+|0x[0-9a-fA-F]+))?$`);
@@ -87,9 +88,9 @@ export function readStatement(count, line) {
   return new Statement(count, line, label ? label[1] : "", operation, operands.trim() ? parted(operands) : []);
 }
 
-/** The statements of a text, each at its place. */
+/** The statements of a text, each at its place. The mark that some editors put before UTF-8 is passed over. */
 export function readSource(text) {
-  const source = new Source(), lines = text.split("\n");
+  const source = new Source(), lines = (text.startsWith(MARK) ? text.slice(MARK.length) : text).split("\n");
   if (!lines[lines.length - 1]) lines.pop();
   let places = { text: TEXT, data: DATA }, part = "text";
   lines.forEach((line, at) => {

@@ -31,7 +31,7 @@ ROOT = os.path.dirname(os.path.dirname(CASE))
 sys.path[:0] = [f"{ROOT}/tools", f"{ROOT}/cases"]
 import step_page
 from places import places_of
-from programs import Failed, made_machine, run, tool
+from programs import WARNED, Failed, made_machine, run, tool
 from tracing import recorded
 
 TRY = tool("try")
@@ -148,6 +148,7 @@ def items(room: str) -> List[Item]:
 def of_tools(item: Item) -> Dict[str, Any]:
     """What tools/try tells, and the data of tools/step --html."""
     os.chdir(item.folder)
+    WARNED.clear()  # a run of its own
     out = io.StringIO()
     words = [*item.sources, "--ticks", str(TICKS), "--quantum", str(QUANTUM), *(["--schedule", item.schedule] if item.schedule else [])]
     with contextlib.redirect_stdout(out), contextlib.redirect_stderr(out):
