@@ -6,7 +6,8 @@ import { tables } from "./tables.js";
 import { address, counted, shown, utf8 } from "./text.js";
 
 // What begins a line of tools/try: how an environment ended, and what stands below that.
-const OWN_LINE = /^(?:-- |   (at 0x|it |and [0-9]|usually: |[0-9a-f]{8} [0-9a-f]{8} |\S+:[0-9]+: ))/;
+const OWN_LINE = /^(?:-- |   (at 0x|it |and [0-9]|since tick |from tick |usually: |[0-9a-f]{8} [0-9a-f]{8} |\S+:[0-9]+: ))/;
+const MOST_CONSOLE = 200; // lines of a console that are shown
 const OF_AN_ACCESS = ["mod", "tlbl", "tlbs", "adel", "ades"];
 
 const many = (count, what = "packet") => `${counted(count)} ${what}${count === 1 ? "" : "s"}`;
@@ -35,11 +36,14 @@ export function place(program, env, withAddress) {
   };
 }
 
-/** The lines of a console. One that looks like a line of tools/try has its first character as digits. */
+/** The lines of a console, of a long one those at both ends. One that looks like a line of tools/try has its first character as digits. */
 function consoleLines(bytes) {
   const text = utf8(bytes).replace(/\n+$/, "");
   const escaped = line => `\\x${line.codePointAt(0).toString(16).padStart(2, "0")}${line.slice(line.codePointAt(0) > 0xffff ? 2 : 1)}`;
-  return text ? shown(text).split("\n").map(line => OWN_LINE.test(line) ? escaped(line) : line) : [];
+  const lines = text ? shown(text).split("\n").map(line => OWN_LINE.test(line) ? escaped(line) : line) : [], left = lines.length - MOST_CONSOLE;
+  if (left <= 0) return lines;
+  const half = MOST_CONSOLE / 2, note = `-- ${counted(left)} lines of the console are left out here: the report of \`--keep DIR\` has all`;
+  return [...lines.slice(0, half), note, ...lines.slice(-half)];
 }
 
 /** Each environment's console, how it ended, and which of its calls were refused. `again` answers the report of another limit. */

@@ -1,24 +1,27 @@
 // Says in words how each program of a run ended, as tools/try does.
 
 import { endings, packetLines, revocationLines } from "./ends.js";
+import { loopLine } from "./loops.js";
 import { placesOf } from "./places.js";
 import { Failed, Workshop } from "./programs.js";
 import { MOST_LINES, refusedCalls, refusedLines } from "./refused.js";
 import { shown } from "./text.js";
 
-/** The calls of each environment that were refused, as at most ten lines of the run. */
-function refusalLines(workshop, report) {
+/** What the trace of each environment tells: the loop in which it is at the limit, and the calls that were refused, as at most ten lines
+ * of the run. */
+function tracedLines(workshop, report) {
   const told = [];
   let left = MOST_LINES;
-  report.environments.forEach(({ number }, at) => {
-    const refused = refusedCalls(workshop.trace(report.time, number), report, number);
-    let lines = refused.length ? refusedLines(refused, placesOf(workshop.programs[at]), report.time) : [];
+  report.environments.forEach((env, at) => {
+    const text = workshop.trace(report.time, env.number), refused = refusedCalls(text, report, env.number);
+    const isCut = env.life === "live" && report.ending === "limit", places = refused.length || isCut ? placesOf(workshop.programs[at]) : null;
+    let lines = refused.length ? refusedLines(refused, places, report.time) : [];
     if (lines.length > left) {
       const kept = Math.max(left - 1, 0), more = lines.length - kept;
       lines = [...lines.slice(0, kept), ...(left ? [`   and ${more} more calls were refused`] : [])];
     }
     left -= lines.length;
-    told.push(lines);
+    told.push([...(isCut ? loopLine(text, places, report.time, env.cpu.pc) : []), ...lines]);
   });
   return told;
 }
@@ -32,7 +35,7 @@ export function told(run, files, { sources, ticks, quantum = 100, schedule = "" 
     const report = workshop.report(ticks);
     found.report = report;
     found.bytes = workshop.room.get("try.report");
-    const refused = refusalLines(workshop, report);
+    const refused = tracedLines(workshop, report);
     found.environments = endings(report, workshop.programs, limit => workshop.report(limit), refused);
     workshop.room.set("try.report", found.bytes);
     found.more = [...packetLines(report), ...revocationLines(report)];

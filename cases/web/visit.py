@@ -66,8 +66,8 @@ class Visit:
     def all(self, digests: Dict[str, str], command: List[str], written: bytes) -> None:
         self.browser.open(self.address)
         self.wait("the page", "document.getElementById('examples').childElementCount > 0 && document.getElementById('sources').value !== ''")
-        fits = "(it => it.scrollHeight <= innerHeight && it.scrollWidth <= innerWidth)(document.documentElement)"
-        self.check("it fits on 1280 by 720", True, self.value(fits))
+        self.check("it fits on 1280 by 720", True,
+                   self.value("(it => it.scrollHeight <= innerHeight && it.scrollWidth <= innerWidth)(document.documentElement)"))
         for name, digest in digests.items():
             self.open(name)
             self.check(f"the report of {name}", digest, self.run())
