@@ -288,8 +288,8 @@ static inline unsigned aegis_transfer(unsigned target, enum aegis_kind kind, uns
 }
 
 /* calls.c: a client calls a server, which is another environment, and waits for its answer. As long as the server isn't open it
-   yields, and tries again. The code is 0 with an answer; 8 if there is no server any more; and this one if the client has its
-   slot again without an answer, since the server is dead, or has dropped it. */
+   yields, and tries again. It waits as long as the server lives. The code is 0 with an answer; 8 if there is no server any more; and
+   this one if the server died after it was called. */
 #define AEGIS_NO_ANSWER 0xffffffffu
 struct aegis_answer aegis_ask(unsigned server, unsigned argument);
 

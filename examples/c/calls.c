@@ -1,59 +1,72 @@
-/* Calls between environments. A call is a synchronous transfer: the client's slot is the server's until it gives it back, and so
-   it works in the client's time. The answer is an asynchronous one, of the rest of the slice alone. For if the server was
-   stopped on the way, it goes on in whichever of its slots comes next, and a synchronous answer would hand on that slot,
-   which may be its own. calls.s has where both enter. */
+/* The part of a server that runs seldom: it opens, it waits, and it looks for a slot. calls.s and words.s have the rest.
+
+   A call is a synchronous transfer: the client's slot is the server's until it gives it back, and so it works in the client's
+   time. It drops the slot, which is the client's again, accepts this client alone, and answers by an asynchronous transfer of
+   the rest of the slice. So the client may call again at once, and nobody else comes between the accept and the answer.
+   At its own next turn the server accepts the others, and from the turn after that on all. */
 #include "serving.h"
 
-void aegis_answered(void);
 void aegis_called(void);
 
-/* The transfer, behind which a client goes on at once if it is refused, and with an answer by way of its entry. That
-   keeps the registers that a function keeps, and no others. */
-static struct aegis_answer called(unsigned server, unsigned argument)
-{
-    register unsigned code __asm__("$2") = AEGIS_TRANSFER;
-    register unsigned value __asm__("$3");
-    register unsigned first __asm__("$4") = server;
-    register unsigned second __asm__("$5") = AEGIS_SYNCHRONOUS;
-    register unsigned third __asm__("$6") = argument;
-    register unsigned answered __asm__("$7") = 0;
-    __asm__ volatile("syscall"
-                     : "+r"(code), "=r"(value), "+r"(first), "+r"(second), "+r"(third), "+r"(answered)
-                     :
-                     : "$1", "$8", "$9", "$10", "$11", "$12", "$13", "$14", "$15", "$24", "$25", "hi", "lo", "memory");
-    return (struct aegis_answer){code == AEGIS_OK && !answered ? AEGIS_NO_ANSWER : code, value};
-}
+static unsigned served;
+static unsigned char own[AEGIS_SLOTS_AT_MOST]; /* the slots that the server held when it opened */
 
-struct aegis_answer aegis_ask(unsigned server, unsigned argument)
+/* Waits for a call: of some clients, and from the next turn on of all. */
+__attribute__((noreturn)) static void wait_for(unsigned clients)
 {
-    aegis_context(AEGIS_ASYNCHRONOUS_CALLS, aegis_answered);
+    aegis_accept(clients);
     for (;;) {
-        aegis_accept(1u << server); /* an entry leaves the mask 0 */
-        struct aegis_answer answer = called(server, argument);
-        /* the server isn't open, or has this one's slot still */
-        if (answer.code != AEGIS_NOT_ACCEPTED && answer.code != AEGIS_NOT_HOLDER)
-            return answer;
         aegis_yield();
+        aegis_accept(served);
     }
 }
 
-static unsigned (*answer_of)(unsigned client, unsigned argument);
-
-/* A client's call, which has entered. It is answered first. At its next turn the server gives the client's slot back, and
-   accepts other calls: if it did that before the answer, and were stopped between the two, another client's registers would
-   take the place of those in which the answer is. Who was served last comes last. */
-__attribute__((noreturn, used)) void aegis_answer_to(unsigned client, unsigned argument)
+/* The server's next turn after it answered a client, who comes last. */
+__attribute__((noreturn, used)) void aegis_answered_to(unsigned client)
 {
-    aegis_transfer(client, AEGIS_ASYNCHRONOUS, answer_of(client, argument));
-    aegis_drop(held_slot(home));
-    wait_for(served & ~(1u << client));
+    unsigned others = served & ~(1u << client);
+    wait_for(others ? others : served);
+}
+
+/* Gives a client's slot back where it isn't the one that it had last. It may have none any more: the client is dead, or a
+   server that was asked in turn has given the slot back already. */
+__attribute__((used)) void aegis_give_back(unsigned client)
+{
+    unsigned self = aegis_self(), slots = aegis_query(AEGIS_SLOTS, 0).value;
+    for (unsigned slot = 0; slot < slots; slot++)
+        if (!own[slot] && aegis_query(AEGIS_HOLDER, slot).value == self) {
+            aegis_drop(slot);
+            AEGIS_SLOT_OF[client] = slot;
+            return;
+        }
+    AEGIS_SLOT_OF[client] = AEGIS_NO_SLOT_KNOWN;
+}
+
+/* Notes which slots are its own, and which slot each of the others holds. */
+static void note_slots(void)
+{
+    unsigned self = aegis_self(), slots = aegis_query(AEGIS_SLOTS, 0).value;
+    for (unsigned env = 0; env < AEGIS_ENVIRONMENTS; env++)
+        AEGIS_SLOT_OF[env] = AEGIS_NO_SLOT_KNOWN;
+    for (unsigned slot = 0; slot < slots; slot++) {
+        unsigned holder = aegis_query(AEGIS_HOLDER, slot).value;
+        own[slot] = holder == self;
+        if (holder < AEGIS_ENVIRONMENTS)
+            AEGIS_SLOT_OF[holder] = slot;
+    }
+}
+
+void aegis_open(unsigned clients, void (*entry)(void), unsigned answer_of)
+{
+    served = clients;
+    AEGIS_ANSWER_OF = answer_of;
+    AEGIS_STACK_TOP = AEGIS_STACK_BEGIN;
+    note_slots();
+    aegis_context(AEGIS_SYNCHRONOUS_CALLS, entry);
+    wait_for(clients);
 }
 
 void aegis_serve(unsigned clients, unsigned (*answer)(unsigned client, unsigned argument))
 {
-    served = clients;
-    answer_of = answer;
-    home = held_slot(AEGIS_ANY);
-    aegis_context(AEGIS_SYNCHRONOUS_CALLS, aegis_called);
-    wait_for(clients);
+    aegis_open(clients, aegis_called, (unsigned)answer);
 }

@@ -1,5 +1,6 @@
-/* What GNU's compiler calls by name where the machine has no instruction: division of 64 bits, and the moves of memory.
-   Debian's libgcc has the divisions too, but it is made for a later MIPS, whose instructions the machine refuses. */
+/* What GNU's compiler calls by name where the machine has no instruction: division and shifts of 64 bits, counts of bits, and the
+   moves of memory. Debian's libgcc has the first three too, but it is made for a later MIPS, whose instructions the machine
+   refuses. */
 typedef unsigned long long wide;
 typedef unsigned long size;
 
@@ -49,6 +50,54 @@ long long __moddi3(long long dividend, long long divisor)
 {
     wide rest = divided(magnitude(dividend), magnitude(divisor)).rest;
     return dividend < 0 ? -rest : rest;
+}
+
+/* Shifts by 0 to 63. A shift of 32 bits by 32 isn't one by 0, and C has none. */
+wide __ashldi3(wide number, int places)
+{
+    unsigned low = (unsigned)number, high = (unsigned)(number >> 32);
+    if (places >= 32)
+        return (wide)(low << (places - 32)) << 32;
+    return places ? (wide)(high << places | low >> (32 - places)) << 32 | low << places : number;
+}
+
+wide __lshrdi3(wide number, int places)
+{
+    unsigned low = (unsigned)number, high = (unsigned)(number >> 32);
+    if (places >= 32)
+        return high >> (places - 32);
+    return places ? (wide)(high >> places) << 32 | (low >> places | high << (32 - places)) : number;
+}
+
+long long __ashrdi3(long long number, int places)
+{
+    return number < 0 ? ~__lshrdi3(~number, places) : __lshrdi3(number, places);
+}
+
+/* How many bits are 0 above the highest 1, and below the lowest one, of a number that isn't 0. */
+int __clzsi2(unsigned number)
+{
+    int zeros = 0;
+    for (; !(number >> 31); number <<= 1)
+        zeros++;
+    return zeros;
+}
+
+int __ctzsi2(unsigned number)
+{
+    int zeros = 0;
+    for (; !(number & 1); number >>= 1)
+        zeros++;
+    return zeros;
+}
+
+/* How many bits are 1. */
+int __popcountsi2(unsigned number)
+{
+    int ones = 0;
+    for (; number; number &= number - 1)
+        ones++;
+    return ones;
 }
 
 void *memcpy(void *to, const void *from, size length)

@@ -11,8 +11,9 @@ SECTIONS
     .text : { *(.text .text.*) } :text
     .rodata : { *(.rodata .rodata.*) } :text
     . = ALIGN(16);
-    .data : { *(.data .data.*) } :data
-    .bss : { *(.bss .bss.* COMMON) } :data
+    .data : { *(.data .data.* .sdata .sdata.*) } :data
+    .bss : { *(.bss .bss.* .sbss .sbss.* COMMON) } :data
+    _gp = 0x00407ff0; /* $28, by which 16 bits with a sign reach all of the page */
     ASSERT(. <= 0x00401000, "text and data are more than a page")
     /DISCARD/ : { *(*) }
 }
