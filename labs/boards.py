@@ -26,7 +26,7 @@ class Board:
         with open(f"{self.room}/{lab.name}.elf", "rb") as file:
             text, has_data = bare.flat(file.read())
         if has_data:
-            raise Missing("The source has data, and the board has the text alone: let what stands behind `.data` stand there, behind the instructions.")
+            raise Missing("The source has data, and the board has the text alone: put what follows `.data` after the instructions, without that line.")
         with open(f"{self.room}/{FILE}", "wb") as file:
             file.write(text)
         self.boards: Dict[int, bare.Ended] = {}

@@ -1,10 +1,11 @@
-# Sends four blocks, each twice, and looks at no answer: the letters of the alphabet from a on, and then the 0.
+# Sends four blocks, each several times, and looks at no answer: the letters of the alphabet from a on, and then the 0.
+.equ    times, 2                # the checker has other numbers in these two lines
 .equ    pause, 600              # ticks, about
 
 start:  la   $18, frame
         li   $16, 0             # the block's number
 next:   sb   $16, 15($18)
-        li   $17, 2
+        li   $17, times
 again:  li   $2, 19             # send
         move $4, $18
         li   $5, 24

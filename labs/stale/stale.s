@@ -11,5 +11,5 @@ use:    # WRITE: store to the page, in each slice
         b    use
         nop
 
-# WRITE: the handler, which is entered at the first store behind the recap. Bind the page again, by the word that was lent, and
+# WRITE: the handler, which is entered at the first store after the recap. Bind the page again, by the word that was lent, and
 # yield from there on.

@@ -1,4 +1,4 @@
-# Exercise 11, slices that are stolen. Environment 0 counts. This program, environment 1, goes on behind the end of its slice,
+# Exercise 11, slices that are stolen. Environment 0 counts. This program, environment 1, goes on past the end of its slice,
 # for as long as it can without dying of it. What it took is taken back: in its own slot, and in slot 2, which is empty.
 .equ    most, 8                 # quanta of grace that it may owe
 

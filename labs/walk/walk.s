@@ -4,7 +4,7 @@
 .equ    rows, 100
 .equ    columns, 64             # words of a row, which are the first of its page
 .equ    word, 0x1234            # the word by which a page may be read
-.equ    array, 0x500000         # row 0, and each next row is a page behind
+.equ    array, 0x500000         # row 0, and each next row is a page further
 .equ    page, 4096
 
 start:  li   $4, 0x500          # bind row after row, to be read

@@ -10,8 +10,8 @@
 
 .equ    current, 0xf0           # at 0x800000f0: the frame of the program that runs,
 .equ    directory, 0xf4         # and at 0x800000f4 its directory
-.equ    other, 0x100            # the second frame stands so far behind the first
-# In a frame $n stands at 4n, and behind the registers:
+.equ    other, 0x100            # the second frame stands so far after the first
+# In a frame $n stands at 4n, and after the registers:
 .equ    hi_at, 0x80
 .equ    lo_at, 0x84
 .equ    epc, 0x88

@@ -175,7 +175,7 @@ poll:   lw   $2, 0($13)         # the packet's length, or 0
         nop
         jr   $31                # $2 is 0
         nop
-came:   lbu  $2, 18($13)        # behind the length
+came:   lbu  $2, 18($13)        # after the length
         lbu  $3, 19($13)
         lw   $10, 20($13)
         lw   $11, 24($13)

@@ -10,7 +10,7 @@ open:   la   $8, turn
         slti $9, $4, 16
         bne  $9, $0, set
         nop
-        li   $4, 2              # behind the last the first
+        li   $4, 2              # after the last the first
 set:    sw   $4, 0($8)
         li   $2, 9              # accept
         syscall

@@ -19,9 +19,9 @@ divide: lw   $10, 0($16)
         nop
 
 next:   la   $16, passes        # the lowest pass, of those that aren't dead
-        li   $4, 0
-        li   $8, -1
-        li   $9, 1
+        ori  $4, $0, 0
+        addiu $8, $0, -1
+        ori  $9, $0, 1
 look:   lw   $10, 0($16)
         sltu $11, $10, $8
         beq  $11, $0, higher
@@ -29,11 +29,10 @@ look:   lw   $10, 0($16)
         move $8, $10
         move $4, $9
         move $17, $16
-higher: addiu $16, $16, 4
-        addiu $9, $9, 1
+higher: addiu $9, $9, 1
         slti $10, $9, 4
         bne  $10, $0, look
-        nop
+        addiu $16, $16, 4
         beq  $4, $0, over
         lw   $9, 12($17)        # its stride
         addu $8, $8, $9
