@@ -12,15 +12,14 @@ import struct
 import subprocess
 from bisect import bisect_right
 from dataclasses import dataclass, field
-from typing import Dict, Iterator, List, NamedTuple, Tuple
+from typing import Dict, List, NamedTuple, Tuple
 
+from elf_symbols import FUNCTION, sections, symbols
 from programs import ROOT, Program, content, made
 from shown import decoded
 from source import DATA
 
 LINES = "mipsel-linux-gnu-addr2line"
-FUNCTION, OBJECT = 2, 1  # kinds of symbols
-SYMBOLS = 2  # the kind of a section
 
 
 class Line(NamedTuple):
@@ -32,46 +31,6 @@ class Line(NamedTuple):
 
     def shown(self) -> str:
         return f"{self.file}:{self.number}: {self.text}"
-
-
-class Section(NamedTuple):
-    """A section of an ELF file."""
-
-    name: str
-    kind: int
-    address: int
-    content: bytes
-    link: int
-
-
-def sections(file: bytes) -> List[Section]:
-    """The sections of an ELF file, where it has some."""
-    if len(file) < 52 or not file.startswith(b"\x7fELF\1\1"):
-        return []
-    first, (size, count, names) = struct.unpack_from("<I", file, 32)[0], struct.unpack_from("<3H", file, 46)
-    if not first or size != 40 or first + 40 * count > len(file):
-        return []
-    heads = [struct.unpack_from("<10I", file, first + 40 * at) for at in range(count)]
-    parts = [b"" if head[1] == 8 else file[head[4]: head[4] + head[5]] for head in heads]
-    table = parts[names] if names < count else b""
-    return [Section(text_at(table, head[0]), head[1], head[3], part, head[6]) for head, part in zip(heads, parts)]
-
-
-def text_at(table: bytes, place: int) -> str:
-    """The text of a table that begins at a place."""
-    return table[place: table.find(b"\0", place)].decode(errors="replace")
-
-
-def symbols(file: bytes) -> Iterator[Tuple[str, int, int, int]]:
-    """The functions and objects of an ELF file: name, address, size, kind."""
-    parts = sections(file)
-    for it in parts:
-        if it.kind == SYMBOLS and it.link < len(parts):
-            for place in range(0, len(it.content) - 15, 16):
-                name, address, size, info, _, part = struct.unpack_from("<3IBBH", it.content, place)
-                named = text_at(parts[it.link].content, name)
-                if part and part < 0xFF00 and (info & 15 in (FUNCTION, OBJECT) or info & 15 == 0 and re.match(r"[A-Za-z_]\w*$", named)):
-                    yield named, address, size, info & 15
 
 
 def fits(program: Program) -> bool:
@@ -159,7 +118,7 @@ def add_lines_of_c(program: Program, path: str, places: Places) -> None:
     for address, said in zip(addresses, ran.stdout.splitlines()):
         found = re.match(r"(.*):(\d+)", said)
         if found and os.path.isfile(found[1]):
-            name = program.shown if os.path.realpath(found[1]) == own else shown_path(found[1])
+            name = program.shown if program.directory and os.path.realpath(found[1]) == own else shown_path(found[1])
             text = lines_of(found[1])
             if int(found[2]) <= len(text):
                 places.sources.setdefault(name, text)

@@ -20,6 +20,7 @@ from typing import Callable, Dict, List, Optional, Set, Tuple
 import built
 import manifests
 import refusals
+from elf_symbols import symbols
 from faults import faults, plain
 from limits import LEAST_QUANTUM, MOST_ENVIRONMENTS, MOST_MAPPINGS, MOST_QUANTUM, PAGE_SIZE, VERSIONS
 from report import Report, read
@@ -233,17 +234,70 @@ def name_of(path: str, names: List[str]) -> str:
     return name
 
 
-MAKERS = {".s": assembled, ".asm": assembled, ".c": compiled, ".elf": taken, "": taken}
+def maker(path: str) -> Optional[Maker]:
+    """What makes a program of a file of this name."""
+    return MAKERS.get(os.path.splitext(path)[1].lower())
+
+
+def sources_beside(path: str) -> List[str]:
+    """The sources of which a file of a program may be made: those beside it, of the same name."""
+    stem = os.path.splitext(path)[0]
+    return [stem + it for it in SOURCES if os.path.exists(stem + it)]
+
+
+def is_older(path: str, source: str) -> bool:
+    """Whether a file of a program is older than its source, or, where that is in C, than a header beside it."""
+    headers = [it.path for it in os.scandir(os.path.dirname(source) or ".") if it.name.endswith(".h")] if source.endswith(".c") else []
+    return any(os.path.getmtime(path) < os.path.getmtime(it) for it in [source, *headers])
+
+
+def unchecked(path: str, sources: List[str]) -> str:
+    """Why an ELF file isn't made anew of a source, though it may be older."""
+    if any(symbols(content(path))):
+        return "it has symbols, so it is of another build"
+    if len(sources) > 1:
+        return f"{' and '.join(sources)} stand beside it"
+    return f"{COMPILER}, which would make it anew, isn't there" if sources[0].endswith(".c") and not shutil.which(COMPILER) else ""
+
+
+def current(path: str, room: str, name: str) -> Program:
+    """The program of an ELF file. One that is another program than the source beside it means is made anew; one in C, whose
+    bytes are the compiler's too, where the source is newer. One with symbols is another build's, which is taken as it is."""
+    sources = sources_beside(path)
+    newer = [it for it in sources if os.path.exists(path) and is_older(path, it)]
+    if not sources or not newer and sources[0].endswith(".c"):
+        return taken(path, room, name)
+    why = unchecked(path, sources)
+    if why:
+        say(f"{path} is older than {newer[0]}, and is run as it is: {why}." if newer else "")
+        return taken(path, room, name)
+    (source,), is_elf = sources, content(path).startswith(b"\x7fELF")
+    try:
+        program = maker(source)(source, room, name)
+    except Failed as fault:
+        if newer:
+            raise
+        say(f"{path} is run, and {source}, which is older, can't be made: {str(fault).splitlines()[0]}" if is_elf else "")
+        return taken(path, room, name)
+    if content(f"{room}/{program.elf}") != content(path):
+        why = "is older than" if newer else "is another program than" if is_elf else "isn't the ELF file of"
+        say(f"{path} {why} {source}: made anew for this run.")
+    return program
+
+
+Maker = Callable[[str, str, str], Program]  # of a file, in a room, by a name
+SOURCES = (".s", ".asm", ".c")
+MAKERS: Dict[str, Maker] = {".s": assembled, ".asm": assembled, ".c": compiled, ".elf": current, "": taken}
 
 
 def from_sources(paths: List[str], quantum: int, room: str) -> List[Program]:
     """The programs of these files, and a manifest of them."""
     programs: List[Program] = []
     for path in paths:
-        maker = MAKERS.get(os.path.splitext(path)[1].lower())
-        if maker is None:
+        make = maker(path)
+        if make is None:
             raise Failed(USAGE, f"{path}: a source ends in .s, .asm, .c or .elf, and a manifest, which stands alone, in .txt")
-        programs.append(maker(path, room, name_of(path, [it.name for it in programs])))
+        programs.append(make(path, room, name_of(path, [it.name for it in programs])))
         listed(programs[-1], room)
     version, most = next((number, most) for number, most in VERSIONS.items() if len(programs) <= most.most_environments)
     lines = [*([f"version {version}"] if version > 1 else []), f"pages {most.most_pages}",
@@ -251,6 +305,22 @@ def from_sources(paths: List[str], quantum: int, room: str) -> List[Program]:
     lines += [f"env {it.name} elf {STACK} 0 {it.elf}" for it in programs]
     write(f"{room}/try.txt", "".join(f"{line}\n" for line in lines).encode())
     return programs
+
+
+def flat(path: str, source: str, room: str) -> Program:
+    """The program of a flat file. One that is older than its source is made anew."""
+    file, stem = os.path.basename(path), os.path.splitext(os.path.basename(path))[0]
+    is_there = os.path.exists(path)
+    if is_there and not (source and is_older(path, source)):
+        program, text = taken(path, room, stem), content(path)
+    else:
+        program = maker(source)(source, room, stem)
+        listed(program, room)
+        text = content(f"{room}/{program.elf}")[84:]  # after the headers of a file with one part
+        if is_there and text != content(path):
+            say(f"{path} is older than {source}: made anew for this run.")
+    write(f"{room}/{file}", text)
+    return program
 
 
 def from_manifest(path: str, room: str) -> List[Program]:
@@ -273,20 +343,12 @@ def body(folder: str, file: str, is_flat: bool, room: str) -> Program:
     path, (stem, ending) = os.path.join(folder, file), os.path.splitext(file)
     if "/" in file:
         raise Failed(UNREAD, f"{path}: name files beside the manifest, without a folder")
-    if not os.path.exists(path):
-        source = next((it for it in (".s", ".asm", ".c") if os.path.exists(os.path.join(folder, stem + it))), None)
-        if source is None:
-            raise Failed(UNREAD, f"{path}: there is no such file, nor {stem}.s or {stem}.c to make it of")
-        program = MAKERS[source](os.path.join(folder, stem + source), room, stem)
-        if is_flat and ending != ".elf":
-            listed(program, room)
-            write(f"{room}/{file}", content(f"{room}/{program.elf}")[84:])  # behind the headers of a file with one part
-            return program
-    else:
-        program = taken(path, room, stem)
-        if is_flat:
-            write(f"{room}/{file}", content(path))
-            return program
+    source = next(iter(sources_beside(path)), "")
+    if not os.path.exists(path) and not source:
+        raise Failed(UNREAD, f"{path}: there is no such file, nor {stem}.s or {stem}.c to make it of")
+    if is_flat and (ending != ".elf" or os.path.exists(path)):
+        return flat(path, source, room)
+    program = current(path, room, stem) if os.path.exists(path) else maker(source)(source, room, stem)
     listed(program, room)
     if file != program.elf:
         os.rename(f"{room}/{program.elf}", f"{room}/{file}")
