@@ -87,7 +87,8 @@ def is_sequel(fault: Fault, said: Statement, source: Source, before: List[Fault]
         again = bool(missing) and missing <= told
         told |= missing
         return again
-    is_data = [it for it in before if not source.statements[it.line - 1].in_text or source.statements[it.line - 1].operation.startswith(".")]
+    there = [source.statements[it.line - 1] for it in before if it.line <= len(source.statements)]  # a last line that is empty is none
+    is_data = [it for it in there if not it.in_text or it.operation.startswith(".")]
     return fault.why == "Empty" and bool(before) or fault.why == "Unaligned" and bool(is_data)
 
 

@@ -55,7 +55,7 @@ function isSequel({ why }, said, source, before, told) {
     for (const it of missing) told.add(it);
     return isAgain;
   }
-  const isData = before.some(it => (at => !at.inText || at.operation.startsWith("."))(source.statements[it.line - 1]));
+  const there = before.map(it => source.statements[it.line - 1]).filter(it => it), isData = there.some(it => !it.inText || it.operation.startsWith("."));
   return why === "Empty" && before.length > 0 || why === "Unaligned" && isData;
 }
 
