@@ -14,6 +14,7 @@ import source
 from knowledge import NAMES
 from programs import tool
 from report import CAUSES
+from step_lines import EXCEPTIONS
 
 LINT, TRY = tool("lint"), tool("try")
 
@@ -47,4 +48,4 @@ def tables() -> Dict[str, Any]:
     """All of it, by the names that web/ has for them."""
     calls = {number: {"name": it.name, "arguments": it.arguments} for number, it in kernel_calls.CALLS.items()}
     return {**of_sources(), "limits": of_limits(), "causes": CAUSES, "usually": TRY.USUALLY, "refusals": refusals.KINDS, "calls": calls,
-            "answers": kernel_calls.ANSWERS, "kinds": kernel_calls.KINDS, "names": NAMES}
+            "answers": kernel_calls.ANSWERS, "kinds": kernel_calls.KINDS, "names": NAMES, "exceptions": EXCEPTIONS}

@@ -105,7 +105,7 @@ export class Follower {
     this.stepped = place;
     this.isRaised = false;
     if (known.get(cell.pc) !== row.pc) known.continueAt(row.pc);
-    const step = { row, isInSlot: known.get(cell.slot), kernel: known.taken(), own: [], asked: "", answered: "", number: null, code: null, console: 0 };
+    const step = { row, isInSlot: known.get(cell.slot), kernel: known.taken(), own: [], asked: "", answered: "", number: null, code: null, console: 0, cause: null };
     const before = [...known.registers];
     this.steps.get(known.number).push(step);
     if (row.isDead) {
@@ -116,6 +116,7 @@ export class Follower {
       known.continueAt(row.pc + 4);
     } else {
       this.machineStep(known, row, following, ends);
+      if (this.isRaised && known.registers[AT] !== null) step.cause = known.registers[AT] >>> 2 & 31;
     }
     if (ends && !row.isDead) {
       const goesToK0 = /^\S+ \$26\b/.test(row.text) && !isStore(row.word ?? 0);

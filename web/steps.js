@@ -2,7 +2,7 @@
 
 import { readImage } from "./image.js";
 import { isStore } from "./instructions.js";
-import { cell, CONTEXT } from "./knowledge.js";
+import { cell, CONTEXT, K1 } from "./knowledge.js";
 import { placesOf } from "./places.js";
 import { eventsOf, readTrace, recorded } from "./recording.js";
 import { readStatement } from "./source.js";
@@ -131,8 +131,15 @@ class StepData {
 
   /** What a step asked, was answered, and changed. */
   told(step) {
-    const effects = [step.asked, registersChanged(step.own).join(", "), ...bytesStored(step, this.known, this.places), step.row.isDead ? "dead" : ""];
+    const effects = [step.asked, this.exception(step), registersChanged(step.own).join(", "), ...bytesStored(step, this.known, this.places), step.row.isDead ? "dead" : ""];
     return effects.filter(it => it).join("; ");
+  }
+
+  /** The exception that a step raised: its name, its code, and the bad address if it has one. */
+  exception({ cause }) {
+    const bad = this.known.registers[K1];
+    if (cause === null) return "";
+    return `exception ${tables.exceptions[cause] ?? "?"} (${cause})${cause >= 1 && cause <= 5 && bad !== null ? ` at 0x${address(bad)}` : ""}, to handler`;
   }
 
   all() {
