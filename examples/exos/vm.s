@@ -1,4 +1,4 @@
-# ExOS, virtual memory. The program has its own page table. Pages are allocated when they are first touched, and a
+# ExOS, virtual memory. The program has a page table of its own. Pages are allocated when they are first touched, and a
 # page that was stored to is known to be dirty.
 #
 # Who decides what
@@ -29,7 +29,7 @@
 #   no page yet       a miss (TLBL or TLBS). The handler allocates a page and binds it read-only.
 #   a first store     Mod, since the binding is read-only. The handler sets the dirty bit and binds the page writable.
 #   a lost binding    a miss at a page that is mapped. The kernel has room for a binding in each of 256 rows, in version 2 of
-#                     128, and a bind at a VPN that far further on takes the row. The handler binds the page again as the table
+#                     128, and a bind at a VPN so many further on takes the row. The handler binds the page again as the table
 #                     says. So the kernel's bindings are a cache of the table, as a TLB is.
 #   no page is free   where the kernel has asked another environment for one (22), the handler yields and calls again.
 #
@@ -194,7 +194,7 @@ miss:   andi $8, $10, mapped
         ori  $10, $10, mapped
 
 wait:   li   $8, again
-        bne  $2, $8, give_up    # no page is free, and there is nobody to ask
+        bne  $2, $8, give_up    # none is free, and there is nobody to ask
         move $10, $0
         li   $2, call_yield
         li   $4, any_environment
@@ -232,7 +232,7 @@ give_up: li  $2, call_exit
         syscall
 
 # --- The console --------------------------------------------------------------------------------------------------------
-# Puts the number $4 in decimal, and after it the character $5. The digits are made from the last one on.
+# Puts the number $4 in decimal, and behind it the character $5. The digits are made from the last one on.
 
 print:  la   $6, behind
         sb   $5, 0($6)
