@@ -171,10 +171,20 @@ def assembled(path: str, room: str, name: str) -> Program:
     return Program(name, path, f"{name}.elf", source)
 
 
+def without_blanks(folder: str, link: str) -> str:
+    """A path of a folder that `make` takes as one word: its own, or that of a link to it where it has blanks."""
+    if not re.search(r"\s", folder):
+        return folder
+    if not os.path.islink(link):
+        os.symlink(folder, link)
+    return link
+
+
 def made(path: str, room: str, target: str) -> subprocess.CompletedProcess:
     """Has the examples' Makefile make this of a program in C."""
-    beside = os.path.dirname(os.path.abspath(path))
-    words = ["make", "-s", "-f", f"{ROOT}/examples/c/Makefile", f"CPPFLAGS=-iquote {beside}", target]
+    beside = without_blanks(os.path.dirname(os.path.abspath(path)), f"{room}/beside.link")
+    examples = without_blanks(f"{ROOT}/examples/c", f"{room}/examples.link")
+    words = ["make", "-s", "-f", f"{examples}/Makefile", f"CPPFLAGS=-iquote {beside}", target]
     return subprocess.run(words, cwd=room, stdout=subprocess.PIPE, stderr=subprocess.STDOUT)
 
 
