@@ -16,6 +16,8 @@ from dataclasses import dataclass
 from typing import Optional
 
 ROOT = os.path.dirname(os.path.dirname(os.path.realpath(__file__)))
+# Where the folder of the program that was built is made. It has links, which `rt ci` takes nowhere below crates/.
+TOOLCHAIN = f"{ROOT}/out/toolchain"
 NATIVE, PORTABLE = "x86_64-unknown-linux-gnu", "wasm64-unknown-unknown"
 # What of the module's text is of a processor: the layout of its memory, its name, and attributes of its functions.
 LAYOUT = "e-m:e-p:64:64-p10:8:8-p20:8:8-i64:64-i128:128-n32:64-S128"
