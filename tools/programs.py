@@ -171,19 +171,19 @@ def assembled(path: str, room: str, name: str) -> Program:
     return Program(name, path, f"{name}.elf", source)
 
 
-def without_blanks(folder: str, link: str) -> str:
-    """A path of a folder that `make` takes as one word: its own, or that of a link to it where it has blanks."""
+def without_blanks(folder: str, room: str, link: str) -> str:
+    """A path of a folder that `make`, which runs in room, takes as one word: its own, or a link to it there where it has blanks."""
     if not re.search(r"\s", folder):
         return folder
-    if not os.path.islink(link):
-        os.symlink(folder, link)
+    if not os.path.islink(f"{room}/{link}"):
+        os.symlink(folder, f"{room}/{link}")
     return link
 
 
 def made(path: str, room: str, target: str) -> subprocess.CompletedProcess:
     """Has the examples' Makefile make this of a program in C."""
-    beside = without_blanks(os.path.dirname(os.path.abspath(path)), f"{room}/beside.link")
-    examples = without_blanks(f"{ROOT}/examples/c", f"{room}/examples.link")
+    beside = without_blanks(os.path.dirname(os.path.abspath(path)), room, "beside.link")
+    examples = without_blanks(f"{ROOT}/examples/c", room, "examples.link")
     words = ["make", "-s", "-f", f"{examples}/Makefile", f"CPPFLAGS=-iquote {beside}", target]
     return subprocess.run(words, cwd=room, stdout=subprocess.PIPE, stderr=subprocess.STDOUT)
 
