@@ -1,7 +1,7 @@
 """Links the proved program as it is shipped: for Linux on x86-64 with each glibc from 2.14 on, and as a WebAssembly module.
 
-The kit's `rattle build` compiles the program by the clang of a toolchain folder. Folder, below, is one of links to the
-kit's files, in which clang keeps the LLVM module that it compiles, and the start-up object is runtime/start.c's. The
+The kit's `rattle build` compiles the program by the clang of a toolchain folder. Folder, below, is one whose tools pass
+on to the kit's, in which clang keeps the LLVM module that it compiles, and the start-up object is runtime/start.c's. The
 WebAssembly module is that very LLVM module for another processor, over runtime/module.c.
 """
 from __future__ import annotations
@@ -16,7 +16,7 @@ from dataclasses import dataclass
 from typing import Optional
 
 ROOT = os.path.dirname(os.path.dirname(os.path.realpath(__file__)))
-# Where the folder of the program that was built is made. It has links, which `rt ci` takes nowhere below crates/.
+# Where the folder of the program that was built is made.
 TOOLCHAIN = f"{ROOT}/out/toolchain"
 NATIVE, PORTABLE = "x86_64-unknown-linux-gnu", "wasm64-unknown-unknown"
 # What of the module's text is of a processor: the layout of its memory, its name, and attributes of its functions.
@@ -80,18 +80,15 @@ class Folder:
         return f"{self.at}/module.bc"
 
     def make(self) -> None:
-        """Makes the folder anew."""
+        """Makes the folder anew, without links, which `rt ci` takes nowhere in a repository."""
         shutil.rmtree(self.at, ignore_errors=True)
-        for part in ("bin", "lib"):
-            os.makedirs(f"{self.at}/{part}")
-            for name in os.listdir(f"{self.kit}/toolchain/{part}"):
-                if name not in ("clang", "Scrt1.o"):
-                    os.symlink(os.path.realpath(f"{self.kit}/toolchain/{part}/{name}"), f"{self.at}/{part}/{name}")
-        with open(f"{self.at}/bin/clang", "w", encoding="utf-8") as it:
-            it.write("#!/bin/sh\n# The kit's clang, which is passed what it is asked; the LLVM module that it compiles is kept.\n"
-                     'for word do case "$word" in *.bc) cp "$word" ' + shlex.quote(self.module) + " ;; esac; done\n"
-                     f'exec {shlex.quote(self.clang)} "$@"\n')
-        os.chmod(f"{self.at}/bin/clang", 0o755)
+        shutil.copytree(f"{self.kit}/toolchain/lib", f"{self.at}/lib")
+        os.makedirs(f"{self.at}/bin")
+        for name in os.listdir(f"{self.kit}/toolchain/bin"):
+            kept = f'for word do case "$word" in *.bc) cp "$word" {shlex.quote(self.module)} ;; esac; done\n' if name == "clang" else ""
+            with open(f"{self.at}/bin/{name}", "w", encoding="utf-8") as it:
+                it.write(f'#!/bin/sh\n{kept}exec {shlex.quote(f"{self.kit}/toolchain/bin/{name}")} "$@"\n')
+            os.chmod(f"{self.at}/bin/{name}", 0o755)
         self.compile(NATIVE, "-O2", "-fPIE", "-fno-asynchronous-unwind-tables", "-std=c11", f"{ROOT}/runtime/start.c", "-o", f"{self.at}/lib/Scrt1.o")
 
     def compile(self, target: str, *words: str) -> None:
