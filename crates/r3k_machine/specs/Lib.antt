@@ -5,5 +5,6 @@ pub mod Steps
 pub mod Code
 pub mod Machine
 pub mod Entry
+pub mod Run
 pub mod Exceptions
 pub mod System

@@ -1,8 +1,6 @@
 //! The machine: its registers, its rows and coprocessor 0.
-ghost use Rattle.std.specs.Prelude.{◌≡◌, ◌<◌, ◌≤◌, ◌/◌, true, false, if◌then◌else◌, is_some, length, IfSome, IsSome, None, Some};
-ghost use Rattle.mips_exec.specs.declared.exception.Exc.{Exc};
+ghost use Rattle.std.specs.Prelude.{◌≡◌, ◌<◌, ◌≤◌, ◌/◌, true, if◌then◌else◌, is_some, length, IfSome};
 ghost use Rattle.mips_exec.specs.Step.{cpu_after, outcome_of, write_after};
-ghost use Rattle.mips_step.specs.WordStep.{has_retired};
 ghost use Rattle.aegis_limits.specs.Limits.{page_size};
 ghost use Rattle.r3k_tlb.specs.Row.{pid_numbers};
 ghost use Rattle.r3k_tlb.specs.Rows.{first_fitting};
@@ -10,11 +8,10 @@ ghost use Rattle.r3k_cp0.specs.Random.{first_random, random_end};
 ghost use Rattle.r3k_cp0.specs.Registers.{cp0_reg, current_pid, is_user, with_cp0_reg};
 ghost use Rattle.r3k_machine.specs.Exceptions.{as_user, in_exception, interrupted, out_of_exception};
 ghost use Rattle.r3k_machine.specs.Machine.{after_attempts, blank_machine, end_of, end_of_trap, user_step};
-ghost use Rattle.r3k_machine.specs.declared.machine.MachineEnd.TheVariants as ends;
-ghost use Rattle.r3k_machine.specs.Entry.{came_by, entry_at, entry_in, next_entry};
+ghost use Rattle.r3k_machine.specs.Entry.{came_by, entry_at, entry_in};
 ghost use Rattle.r3k_machine.specs.Memory.{frames_written};
 ghost use Rattle.r3k_machine.specs.System.{machine_step, with_random_fallen};
-ghost use Rattle.r3k_machine.specs.Steps.{RowStepsRetire, after_row_steps, wanted_behind};
+ghost use Rattle.r3k_machine.specs.Run.{IsRun};
 
 use crate::bus::RowBus;
 use crate::code::CodePage;
@@ -177,18 +174,7 @@ impl Machine {
     /// number only where the next step of the table wouldn't retire, which isn't made: so it
     /// ends before an instruction of coprocessor 0. Random is lowered once for each.
     pub fn run(&mut self, frames: &mut Frames, most: u32) -> Steps
-        ensures machine { record { cpu = self.new.cpu; frames = frames.new } ≡ after_row_steps self.old.cp0 self.old.tlb (record { cpu = self.old.cpu; frames = frames.old }) result.made }
-        ensures retire { RowStepsRetire self.old.cp0 self.old.tlb (record { cpu = self.old.cpu; frames = frames.old }) result.made }
-        ensures most { result.made ≤ most }
-        ensures stop { result.made < most → has_retired (user_step self.new frames.new) ≡ false }
-        ensures wanted { result.wanted ≡ wanted_behind result.made most self.new.cp0 self.new.tlb (record { cpu = self.new.cpu; frames = frames.new }) }
-        ensures missed { (exc : Exc) → result.made < most → end_of self.new.cp0 self.new.tlb (outcome_of (user_step self.new frames.new)) ≡ ends.Refill exc → result.wanted ≡ Some exc.bad }
-        ensures entry { result.entry ≡ next_entry result.made most (user_step self.new frames.new) }
-        ensures came { IfSome result.entry (λ entry. user_step self.new frames.new ≡ came_by entry) }
-        ensures apart { IsSome result.wanted → result.entry ≡ None }
-        ensures size { length frames.new ≡ length frames.old }
-        ensures rows { self.new.tlb ≡ self.old.tlb }
-        ensures cp0 { self.new.cp0 ≡ after_attempts result.made self.old.cp0 }
+        ensures { IsRun self.old self.new frames.old frames.new most result }
     {
         law_syscalls_call();
         let steps = run_rows(&mut self.cpu, frames, &self.tlb, &self.cp0, most);
