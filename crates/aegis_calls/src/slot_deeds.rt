@@ -11,7 +11,7 @@ ghost use Rattle.board_model.specs.Showing.{book_of};
 ghost use Rattle.board_model.specs.Sound.{IsLiving};
 
 use crate::board::Board;
-use board_acts::{Entry, enter, hand_on, push_slot};
+use board_acts::{GrantedTransfer, enter, hand_on, push_slot};
 use env_frames::TransferKind;
 use kernel_journal::Row;
 
@@ -58,7 +58,7 @@ impl Board {
             &mut self.roster,
             &mut self.frames,
             &mut self.machine.cpu,
-            Entry {
+            GrantedTransfer {
                 env,
                 value,
                 target,

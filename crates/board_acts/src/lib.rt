@@ -23,4 +23,4 @@ pub use misses::{answer_miss, refill};
 pub use output::{put, send};
 pub use reading::{is_owned, page_behind, plain_most, space_in, unless_empty};
 pub use slot_rows::{push_slot, release_slots, settle};
-pub use transfer::{Entry, enter, hand_on};
+pub use transfer::{GrantedTransfer, enter, hand_on};

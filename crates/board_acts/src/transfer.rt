@@ -53,9 +53,9 @@ pub fn hand_on(
     }
 }
 
-/// What enters an environment by a transfer.
+/// A transfer that is granted.
 #[derive(Clone, Copy)]
-pub struct Entry {
+pub struct GrantedTransfer {
     /// The environment that calls.
     pub env: u8,
     /// The value with which its call is granted.
@@ -67,7 +67,7 @@ pub struct Entry {
 
 /// The target goes on at its entry with the caller's registers as they stand at its call; the call is granted
 /// with a value then, and what the caller goes on with later is kept.
-pub fn enter(roster: &mut Roster, frames: &mut Frames, cpu: &mut Cpu, entry: Entry)
+pub fn enter(roster: &mut Roster, frames: &mut Frames, cpu: &mut Cpu, entry: GrantedTransfer)
     requires caller { entry.env < length roster.old.list }
     requires there { entry.target < length roster.old.list }
     requires open { handler_of (handlers_of roster.old.list entry.target) (entry_context entry.kind) ≢ 0 }
@@ -75,7 +75,7 @@ pub fn enter(roster: &mut Roster, frames: &mut Frames, cpu: &mut Cpu, entry: Ent
     ensures after { (b : Shown) → with_entry b frames.new cpu.new roster.new ≡ after_entry (with_entry b frames.old cpu.old roster.old) entry.env entry.value entry.target entry.kind }
     ensures size { length frames.new ≡ length frames.old }
 {
-    let Entry {
+    let GrantedTransfer {
         env,
         value,
         target,
