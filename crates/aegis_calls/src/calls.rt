@@ -1,10 +1,10 @@
 //! Kernel calls: a call is decided, answered, and what it does is done.
-ghost use Rattle.std.specs.Prelude.{◌≡◌, ◌<◌, ◌^◌, Some};
+ghost use Rattle.std.specs.Prelude.{◌≡◌, ◌<◌, Some, false};
 ghost use Rattle.aegis_limits.specs.Limits.{environment_numbers};
 ghost use Rattle.world_model.specs.declared.call.Call.TheVariants.{Accept, Bind, Context, Put, Unbind};
-ghost use Rattle.world_model.specs.Book.{running};
 ghost use Rattle.world_model.specs.Call.{deed_of};
 ghost use Rattle.world_model.specs.May.{May};
+ghost use Rattle.aegis_calls.specs.Calls.{MayCall, is_short};
 
 use crate::board::Board;
 use board_acts::answer;
@@ -32,9 +32,7 @@ impl Board {
     /// The runner's call is granted with a value, and does what it may.
     #[inline(always)]
     fn grant(&mut self, env: u8, call: Option<Call>, value: u32)
-        requires runs { running self.old.slots.runner ≡ Some env }
-        requires room { 64 < self.old.ledger.spare }
-        requires numbers { self.old.claims.next < 2 ^ 32 }
+        requires call { MayCall self.old env }
         requires may { May (world_of self.old) env (deed_of call value self.old.cpu) }
         ensures { self.new ≡ after_grant self.old env value (deed_of call value self.old.cpu) }
     {
@@ -45,9 +43,7 @@ impl Board {
     /// The runner's call is granted with a value, and does this, which it may.
     #[inline(always)]
     fn do_deed(&mut self, env: u8, value: u32, deed: Deed)
-        requires runs { running self.old.slots.runner ≡ Some env }
-        requires room { 64 < self.old.ledger.spare }
-        requires numbers { self.old.claims.next < 2 ^ 32 }
+        requires call { MayCall self.old env }
         requires may { May (world_of self.old) env deed }
         ensures { self.new ≡ after_grant self.old env value deed }
     {
@@ -110,9 +106,7 @@ impl Board {
     /// known it is the code of that call alone.
     #[inline(always)]
     fn settle_call(&mut self, env: u8, call: Option<Call>)
-        requires runs { running self.old.slots.runner ≡ Some env }
-        requires room { 64 < self.old.ledger.spare }
-        requires numbers { self.old.claims.next < 2 ^ 32 }
+        requires { MayCall self.old env }
         ensures { self.new ≡ after_decision self.old env call }
     {
         self.law_sound();
@@ -131,12 +125,10 @@ impl Board {
         }
     }
 
-    /// A put. It and the next calls have functions of their own, which need few of the host's registers.
+    /// A put.
     #[inline(never)]
     fn settle_put(&mut self, env: u8)
-        requires runs { running self.old.slots.runner ≡ Some env }
-        requires room { 64 < self.old.ledger.spare }
-        requires numbers { self.old.claims.next < 2 ^ 32 }
+        requires { MayCall self.old env }
         ensures { self.new ≡ after_decision self.old env (Some Put) }
     {
         self.settle_call(env, Some(Call::Put));
@@ -145,9 +137,7 @@ impl Board {
     /// A bind.
     #[inline(never)]
     fn settle_bind(&mut self, env: u8)
-        requires runs { running self.old.slots.runner ≡ Some env }
-        requires room { 64 < self.old.ledger.spare }
-        requires numbers { self.old.claims.next < 2 ^ 32 }
+        requires { MayCall self.old env }
         ensures { self.new ≡ after_decision self.old env (Some Bind) }
     {
         self.settle_call(env, Some(Call::Bind));
@@ -156,9 +146,7 @@ impl Board {
     /// An unbind.
     #[inline(never)]
     fn settle_unbind(&mut self, env: u8)
-        requires runs { running self.old.slots.runner ≡ Some env }
-        requires room { 64 < self.old.ledger.spare }
-        requires numbers { self.old.claims.next < 2 ^ 32 }
+        requires { MayCall self.old env }
         ensures { self.new ≡ after_decision self.old env (Some Unbind) }
     {
         self.settle_call(env, Some(Call::Unbind));
@@ -167,9 +155,7 @@ impl Board {
     /// The call of contexts.
     #[inline(never)]
     fn settle_context(&mut self, env: u8)
-        requires runs { running self.old.slots.runner ≡ Some env }
-        requires room { 64 < self.old.ledger.spare }
-        requires numbers { self.old.claims.next < 2 ^ 32 }
+        requires { MayCall self.old env }
         ensures { self.new ≡ after_decision self.old env (Some Context) }
     {
         self.settle_call(env, Some(Call::Context));
@@ -178,36 +164,27 @@ impl Board {
     /// An accept.
     #[inline(never)]
     fn settle_accept(&mut self, env: u8)
-        requires runs { running self.old.slots.runner ≡ Some env }
-        requires room { 64 < self.old.ledger.spare }
-        requires numbers { self.old.claims.next < 2 ^ 32 }
+        requires { MayCall self.old env }
         ensures { self.new ≡ after_decision self.old env (Some Accept) }
     {
         self.settle_call(env, Some(Call::Accept));
     }
 
-    /// The same of a call by its name, each in an arm of its own.
+    /// Any other call than the short ones, each in an arm of its own.
     #[inline(never)]
-    fn settle_named(&mut self, env: u8, call: Call)
-        requires runs { running self.old.slots.runner ≡ Some env }
-        requires room { 64 < self.old.ledger.spare }
-        requires numbers { self.old.claims.next < 2 ^ 32 }
+    fn settle_other(&mut self, env: u8, call: Call)
+        requires may { MayCall self.old env }
+        requires other { is_short call ≡ false }
         ensures { self.new ≡ after_decision self.old env (Some call) }
     {
         match call {
             Call::Yield => self.settle_call(env, Some(Call::Yield)),
-            Call::Put => self.settle_put(env),
             Call::Alloc => self.settle_call(env, Some(Call::Alloc)),
             Call::Free => self.settle_call(env, Some(Call::Free)),
             Call::Recap => self.settle_call(env, Some(Call::Recap)),
-            Call::Bind => self.settle_bind(env),
-            Call::Unbind => self.settle_unbind(env),
-            Call::Context => self.settle_context(env),
-            Call::Accept => self.settle_accept(env),
             Call::Transfer => self.settle_call(env, Some(Call::Transfer)),
             Call::SlotTake => self.settle_call(env, Some(Call::SlotTake)),
             Call::SlotDrop => self.settle_call(env, Some(Call::SlotDrop)),
-            Call::Query => self.settle_call(env, Some(Call::Query)),
             Call::Claim => self.settle_call(env, Some(Call::Claim)),
             Call::Unclaim => self.settle_call(env, Some(Call::Unclaim)),
             Call::Handler => self.settle_call(env, Some(Call::Handler)),
@@ -216,15 +193,15 @@ impl Board {
             Call::Send => self.settle_call(env, Some(Call::Send)),
             Call::OwnNumber => self.settle_call(env, Some(Call::OwnNumber)),
             Call::Clock => self.settle_call(env, Some(Call::Clock)),
+            _ => unreachable!(),
         }
     }
 
-    /// The same of any call: a question is answered at once, and the short calls are found at once.
+    /// The same of any call. The short calls, which programs make most, are found first. All but the question are out of
+    /// line, so that none of them pays for the host's registers that another's code needs.
     #[inline(always)]
     fn answer_call(&mut self, env: u8, call: Option<Call>)
-        requires runs { running self.old.slots.runner ≡ Some env }
-        requires room { 64 < self.old.ledger.spare }
-        requires numbers { self.old.claims.next < 2 ^ 32 }
+        requires { MayCall self.old env }
         ensures { self.new ≡ after_decision self.old env call }
     {
         match call {
@@ -234,7 +211,7 @@ impl Board {
             Some(Call::Unbind) => self.settle_unbind(env),
             Some(Call::Context) => self.settle_context(env),
             Some(Call::Accept) => self.settle_accept(env),
-            Some(call) => self.settle_named(env, call),
+            Some(call) => self.settle_other(env, call),
             None => self.settle_call(env, None),
         }
     }
@@ -242,9 +219,7 @@ impl Board {
     /// The runner stands at a kernel call: it exits, or its call is served.
     #[inline(always)]
     pub(crate) fn take_call(&mut self, env: u8)
-        requires runs { running self.old.slots.runner ≡ Some env }
-        requires room { 64 < self.old.ledger.spare }
-        requires numbers { self.old.claims.next < 2 ^ 32 }
+        requires { MayCall self.old env }
         ensures { self.new ≡ after_runner_call self.old env }
     {
         let number = self.machine.cpu.reg(CALL_NUMBER);

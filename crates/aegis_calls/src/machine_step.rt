@@ -1,8 +1,9 @@
 //! The step of the machine: what it does to the board's parts.
-ghost use Rattle.std.specs.Prelude.{◌≡◌, ◌<◌, ◌^◌, IfSome, IsNone, IsSome, MatchOption, Some};
+ghost use Rattle.std.specs.Prelude.{◌≡◌, IfSome, IsNone, IsSome, MatchOption, Some};
 ghost use Rattle.mips_exec.specs.Step.{outcome_of};
 ghost use Rattle.r3k_machine.specs.Entry.{came_by};
 ghost use Rattle.world_model.specs.Book.{running};
+ghost use Rattle.aegis_calls.specs.Calls.{MayCall};
 
 use crate::board::Board;
 use board_acts::{answer_miss, space_in};
@@ -110,9 +111,7 @@ impl Board {
     /// The runner makes its step, by which it is known to enter the kernel, and its call or trap is handled.
     #[inline(always)]
     pub(crate) fn run_entry(&mut self, env: u8, entry: Entry)
-        requires runs { running self.old.slots.runner ≡ Some env }
-        requires room { 64 < self.old.ledger.spare }
-        requires numbers { self.old.claims.next < 2 ^ 32 }
+        requires call { MayCall self.old env }
         requires stands { StandsAt self.old env entry }
         ensures { self.new ≡ after_runner_step (with_lookups self.old env) env (step_seen self.old env) }
     {
@@ -126,9 +125,7 @@ impl Board {
     /// The runner makes a step, and its call or trap is handled.
     #[inline(never)]
     pub(crate) fn run_step(&mut self, env: u8)
-        requires runs { running self.old.slots.runner ≡ Some env }
-        requires room { 64 < self.old.ledger.spare }
-        requires numbers { self.old.claims.next < 2 ^ 32 }
+        requires { MayCall self.old env }
         ensures { self.new ≡ after_runner_step (with_lookups self.old env) env (step_seen self.old env) }
     {
         match self.make_entry(env) {
@@ -141,9 +138,7 @@ impl Board {
     /// The same of any step.
     #[inline(never)]
     fn make_step(&mut self, env: u8)
-        requires runs { running self.old.slots.runner ≡ Some env }
-        requires room { 64 < self.old.ledger.spare }
-        requires numbers { self.old.claims.next < 2 ^ 32 }
+        requires { MayCall self.old env }
         ensures { self.new ≡ after_runner_step (with_lookups self.old env) env (step_seen self.old env) }
     {
         match self.run_machine(env) {

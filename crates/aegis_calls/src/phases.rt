@@ -4,7 +4,9 @@ ghost use Rattle.aegis_limits.specs.Limits.{most_ticks};
 ghost use Rattle.external_event.specs.EventValue.{is_occurrence};
 ghost use Rattle.world_model.specs.Book.{is_idle_book, running};
 ghost use Rattle.world_model.specs.Step.{Dies};
+ghost use Rattle.board_model.specs.Ticks.{IsSameTick};
 ghost use Rattle.aegis_calls.specs.Cached.{IsCallCached};
+ghost use Rattle.aegis_calls.specs.Calls.{IsOneAct};
 ghost use Rattle.aegis_calls.specs.Entering.{IsEntering, up_to_step};
 ghost use Rattle.world_model.specs.Event.{happen as event_phase};
 ghost use Rattle.world_model.specs.World.{after};
@@ -53,9 +55,7 @@ impl Board {
         requires room { STEP_ROWS ≤ self.old.ledger.spare }
         ensures world { world_of self.new ≡ after (world_of self.old) (event_phase what.now (world_of self.old)) }
         ensures tlb { self.new.tlb ≡ self.old.tlb }
-        ensures time { self.new.time ≡ self.old.time }
-        ensures numbers { self.new.claims.next ≡ self.old.claims.next }
-        ensures whole { self.new.roster.spare ≡ self.old.roster.spare }
+        ensures same { IsSameTick self.old self.new }
         ensures room { self.old.ledger.spare ≤ self.new.ledger.spare + STEP_ROWS }
     {
         self.law_sound();
@@ -78,9 +78,7 @@ impl Board {
         ensures world { world_of self.new ≡ served (world_of self.old) }
         ensures tlb { self.new.tlb ≡ cache_served (world_of self.old) self.old.tlb }
         ensures idle { is_idle_book (world_of self.new).book ≡ is_idle_book (world_of self.old).book }
-        ensures time { self.new.time ≡ self.old.time }
-        ensures numbers { self.new.claims.next ≡ self.old.claims.next }
-        ensures whole { self.new.roster.spare ≡ self.old.roster.spare }
+        ensures same { IsSameTick self.old self.new }
         ensures room { self.old.ledger.spare ≤ self.new.ledger.spare + SERVE_ROWS }
     {
         self.law_sound();
@@ -98,9 +96,7 @@ impl Board {
         ensures world { world_of self.new ≡ after (world_of self.old) (turn_phase (world_of self.old)) }
         ensures tlb { self.new.tlb ≡ self.old.tlb }
         ensures runs { is_idle_book (world_of self.old).book ≡ false → IsSome (world_of self.new).book.runner }
-        ensures time { self.new.time ≡ self.old.time }
-        ensures numbers { self.new.claims.next ≡ self.old.claims.next }
-        ensures whole { self.new.roster.spare ≡ 0 }
+        ensures same { IsSameTick self.old self.new }
         ensures room { self.old.ledger.spare ≤ self.new.ledger.spare + TURN_ROWS }
     {
         self.law_sound();
@@ -115,9 +111,7 @@ impl Board {
         requires numbers { self.old.claims.next ≤ self.old.time }
         ensures world { world_of self.new ≡ after (world_of self.old) (step_phase (world_of self.old)) }
         ensures tlb { self.new.tlb ≡ cache_stepped (world_of self.old) self.old.tlb }
-        ensures time { self.new.time ≡ self.old.time }
-        ensures numbers { self.new.claims.next ≤ self.old.claims.next + 1 }
-        ensures whole { self.new.roster.spare ≡ self.old.roster.spare }
+        ensures act { IsOneAct self.old self.new }
         ensures room { self.old.ledger.spare ≤ self.new.ledger.spare + STEP_ROWS }
     {
         self.law_sound();
@@ -139,9 +133,7 @@ impl Board {
         requires numbers { self.old.claims.next ≤ self.old.time }
         ensures world { world_of self.new ≡ after (up_to_step (world_of self.old)) (step_phase (up_to_step (world_of self.old))) }
         ensures tlb { self.new.tlb ≡ cache_stepped (up_to_step (world_of self.old)) (cache_served (world_of self.old) self.old.tlb) }
-        ensures time { self.new.time ≡ self.old.time }
-        ensures numbers { self.new.claims.next ≤ self.old.claims.next + 1 }
-        ensures whole { self.new.roster.spare ≡ self.old.roster.spare }
+        ensures act { IsOneAct self.old self.new }
         ensures room { self.old.ledger.spare ≤ self.new.ledger.spare + STEP_ROWS }
     {
         self.law_sound();
@@ -183,9 +175,7 @@ impl Board {
         ensures refused { IsRefused (world_of self.old) (world_of self.new) }
         ensures again { IsAgain (world_of self.old) (world_of self.new) }
         ensures tlb { IsCallCached self.old self.new }
-        ensures time { self.new.time ≡ self.old.time }
-        ensures numbers { self.new.claims.next ≤ self.old.claims.next + 1 }
-        ensures whole { self.new.roster.spare ≡ self.old.roster.spare }
+        ensures act { IsOneAct self.old self.new }
         ensures room { self.old.ledger.spare ≤ self.new.ledger.spare + CALL_ROWS }
     {
         self.law_sound();
@@ -206,9 +196,7 @@ impl Board {
         requires room { CALL_ROWS ≤ self.old.ledger.spare }
         ensures world { world_of self.new ≡ died (world_of self.old) env cause }
         ensures tlb { self.new.tlb ≡ cache_acted (world_of self.old) env (Dies cause) self.old.tlb }
-        ensures time { self.new.time ≡ self.old.time }
-        ensures numbers { self.new.claims.next ≡ self.old.claims.next }
-        ensures whole { self.new.roster.spare ≡ self.old.roster.spare }
+        ensures same { IsSameTick self.old self.new }
         ensures room { self.old.ledger.spare ≤ self.new.ledger.spare + CALL_ROWS }
     {
         self.law_sound();

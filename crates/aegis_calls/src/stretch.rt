@@ -1,13 +1,11 @@
 //! Stretches of ticks in which the runner steps and nothing else happens, each as one call.
-ghost use Rattle.std.specs.Prelude.{◌≡◌, ◌≤◌, ◌<◌, ◌+◌, ◌-◌, IfSome, IsSome, None, Some};
+ghost use Rattle.std.specs.Prelude.{◌≡◌, ◌≤◌, ◌<◌, ◌+◌, IfSome, IsSome, None, Some};
 ghost use Rattle.aegis_limits.specs.Limits.{most_ticks};
-ghost use Rattle.revocation_book.specs.RevocationBook.{next_deadline};
-ghost use Rattle.slot_vector.specs.Slices.{left_of};
-ghost use Rattle.world_model.specs.Book.{is_idle_book, running};
-ghost use Rattle.board_model.specs.Stretch.{ArePlain, plain_ticks, stretched};
-ghost use Rattle.aegis_calls.specs.Cached.{AreCachedTicks, FindRows, GoesAsFar, EndsStretch, IsOfMiss, IsStuck, stretched_with};
+ghost use Rattle.world_model.specs.Book.{running};
+ghost use Rattle.board_model.specs.Stretch.{ArePlain, stretched};
+ghost use Rattle.aegis_calls.specs.Cached.{FindRows, EndsStretch, IsOfMiss, IsStuck};
 ghost use Rattle.aegis_calls.specs.Entering.{IsEntering, Tells, TellsOfNext};
-ghost use Rattle.aegis_calls.specs.QuietTicks.{AreQuietTicks, AreSteadyTicks};
+ghost use Rattle.aegis_calls.specs.Stretch.{ArePlainTicks, IsStretch, MayStretch, TellsOfSteps, most_plain};
 
 use crate::board::Board;
 use aegis_limits::VPN_END;
@@ -36,23 +34,14 @@ pub struct Stretch {
 }
 
 impl Board {
-    ghost use Rattle.board_model.specs.Showing.{world_of};
-
     /// The runner makes plain ticks over the rows as they are: at most so many, which come before its last tick and the next
     /// deadline.
     fn run_found(&mut self, env: u8, most: u32) -> Steps
-        requires runs { running self.old.slots.runner ≡ Some env }
-        requires time { self.old.time + most ≤ most_ticks }
-        requires left { most < left_of self.old.slots.runner }
-        requires early { most ≤ next_deadline self.old.revocations - self.old.time }
+        requires { MayStretch self.old env most }
         ensures after { self.new ≡ stretched self.old env result.made }
         ensures plain { ArePlain self.old env result.made }
         ensures found { FindRows self.old env result.made }
-        ensures most { result.made ≤ most }
-        ensures wanted { IsSome result.wanted → result.made < most }
-        ensures entry { IsSome result.entry → result.made < most }
-        ensures told { result.made < most → Tells self.new env result.entry }
-        ensures apart { IsSome result.wanted → result.entry ≡ None }
+        ensures tells { TellsOfSteps self.new env most result }
         ensures missed { result.made < most → IsOfMiss self.new env result.wanted }
         ensures stop { result.made < most → IsStuck self.new env }
     {
@@ -69,22 +58,13 @@ impl Board {
     /// which missed there. If it makes none, nothing has changed.
     #[inline(always)]
     fn run_refilled(&mut self, env: u8, address: u32, most: u32) -> Steps
-        requires runs { running self.old.slots.runner ≡ Some env }
-        requires time { self.old.time + most ≤ most_ticks }
-        requires left { most < left_of self.old.slots.runner }
-        requires early { most ≤ next_deadline self.old.revocations - self.old.time }
+        requires may { MayStretch self.old env most }
         requires more { 0 < most }
         requires stuck { IsStuck self.old env }
         requires missed { IsOfMiss self.old env (Some address) }
         requires untold { Tells self.old env None }
-        ensures after { self.new ≡ stretched_with self.old env result.made self.new.tlb }
-        ensures plain { ArePlain self.old env result.made }
-        ensures tlb { AreCachedTicks self.old self.new result.made }
-        ensures most { result.made ≤ most }
-        ensures wanted { IsSome result.wanted → result.made < most }
-        ensures entry { IsSome result.entry → result.made < most }
-        ensures told { result.made < most → Tells self.new env result.entry }
-        ensures apart { IsSome result.wanted → result.entry ≡ None }
+        ensures ticks { ArePlainTicks self.old self.new env result.made }
+        ensures tells { TellsOfSteps self.new env most result }
         ensures missed { 0 < result.made → result.made < most → IsOfMiss self.new env result.wanted }
         ensures stop { 0 < result.made → result.made < most → IsStuck self.new env }
         ensures ends { result.made ≡ 0 → EndsStretch self.new env }
@@ -119,13 +99,11 @@ impl Board {
     fn run_plain(&mut self, env: u8, most: u32) -> Stretch
         requires runs { running self.old.slots.runner ≡ Some env }
         requires time { self.old.time + most ≤ most_ticks }
-        ensures after { self.new ≡ stretched_with self.old env result.made self.new.tlb }
-        ensures plain { ArePlain self.old env result.made }
-        ensures tlb { AreCachedTicks self.old self.new result.made }
+        ensures ticks { ArePlainTicks self.old self.new env result.made }
         ensures most { result.made ≤ most }
-        ensures stop { result.made < plain_ticks self.old.slots self.old.revocations self.old.time most → EndsStretch self.new env }
-        ensures early { IsSome result.entry → result.made < plain_ticks self.old.slots self.old.revocations self.old.time most }
-        ensures told { result.made < plain_ticks self.old.slots self.old.revocations self.old.time most → Tells self.new env result.entry }
+        ensures stop { result.made < most_plain self.old most → EndsStretch self.new env }
+        ensures early { IsSome result.entry → result.made < most_plain self.old most }
+        ensures told { result.made < most_plain self.old most → Tells self.new env result.entry }
     {
         self.law_sound();
         law_stretch();
@@ -151,21 +129,12 @@ impl Board {
     /// which are left to a tick by its parts; a call or a BREAK whose word is found is told. It changes no claim. No deadline
     /// is served in it, no turn taken, and nobody sends.
     #[inline(always)]
-    pub fn stretch_to_entry(&mut self, most: u32) -> Stretch
+    pub fn stretch(&mut self, most: u32) -> Stretch
         requires time { self.old.time + most ≤ most_ticks }
-        ensures world { AreQuietTicks self.old self.new result.made }
-        ensures steady { AreSteadyTicks self.old result.made }
-        ensures tlb { AreCachedTicks self.old self.new result.made }
-        ensures idle { is_idle_book (world_of self.new).book ≡ is_idle_book (world_of self.old).book }
-        ensures most { result.made ≤ most }
-        ensures stop { GoesAsFar self.old self.new most result.made }
+        ensures stretch { IsStretch self.old self.new most result.made }
         ensures early { IsSome result.entry → result.made < most }
         ensures entry { IfSome result.entry (IsEntering self.new) }
         ensures told { TellsOfNext self.old self.new most result.made result.entry }
-        ensures time { self.new.time ≡ self.old.time + result.made }
-        ensures numbers { self.new.claims.next ≡ self.old.claims.next }
-        ensures whole { self.new.roster.spare ≡ self.old.roster.spare }
-        ensures ledger { self.new.ledger ≡ self.old.ledger }
     {
         self.law_sound();
         law_stretch();
@@ -176,23 +145,5 @@ impl Board {
                 entry: None,
             },
         }
-    }
-
-    /// The same ticks; the result is how many there were.
-    #[inline(always)]
-    pub fn stretch(&mut self, most: u32) -> u32
-        requires time { self.old.time + most ≤ most_ticks }
-        ensures world { AreQuietTicks self.old self.new result }
-        ensures steady { AreSteadyTicks self.old result }
-        ensures tlb { AreCachedTicks self.old self.new result }
-        ensures idle { is_idle_book (world_of self.new).book ≡ is_idle_book (world_of self.old).book }
-        ensures most { result ≤ most }
-        ensures stop { GoesAsFar self.old self.new most result }
-        ensures time { self.new.time ≡ self.old.time + result }
-        ensures numbers { self.new.claims.next ≡ self.old.claims.next }
-        ensures whole { self.new.roster.spare ≡ self.old.roster.spare }
-        ensures ledger { self.new.ledger ≡ self.old.ledger }
-    {
-        self.stretch_to_entry(most).made
     }
 }

@@ -39,8 +39,10 @@ returns-in-Some c =
           ∙ c.law_again_answered.ensures b e who has numbers (ap (verdict_now w) same ∙ asks)
           ∙ ap (λ n. tick.again_world w n who) same;
       tlb = λ i is. ap (λ (s : Shown). s.tlb) after ∙ called_empties b e has ∙ ap (λ n. cache_called w n b.tlb) (one e i (sym runs ∙ is));
-      time = ap (λ (s : Shown). s.time) after ∙ leaves.time;
-      numbers = omega (arith, leaves.numbers, ap (λ (s : Shown). s.claims.next) after);
-      whole = ap (λ (s : Shown). s.roster.spare) after ∙ leaves.spare;
+      act = record {
+        time = ap (λ (s : Shown). s.time) after ∙ leaves.time;
+        whole = ap (λ (s : Shown). s.roster.spare) after ∙ leaves.spare;
+        numbers = omega (arith, leaves.numbers, ap (λ (s : Shown). s.claims.next) after);
+      };
       room = omega (arith, leaves.room, ap (λ (s : Shown). s.ledger.spare) after);
     }

@@ -103,12 +103,6 @@ returns-clause-stop c = λ less.
     c.law_finds.ensures c.run-steps.new.self.cp0 pid user (left c) stopped in
     subst (λ (s : Shown). IsStuck s c.args.env) (sym (after c)) stuck
 
-some_more : (made most : ℕ) (o : Option ℕ) → IsSome (if nat_lt made most then o else None) → made < most
-some_more made most o some = search (rules, arith)
-
-pub returns-clause-wanted : goal.returns-clause-wanted
-returns-clause-wanted c = λ some. some_more c.run-steps.result.made c.args.most _ (subst IsSome c.run-steps.ensures.wanted some)
-
 -- ---- what is told of the next step
 
 abbrev behind : (c : goal.After-pass-2) → Shown
@@ -129,9 +123,6 @@ user_now c = ap is_user c.run-steps.ensures.cp0 ∙ c.set_user.ensures.user
 
 fewer : (made most : ℕ) (o p : Option Entry) → p ≡ (if nat_lt made most then o else None) → IsSome p → made < most
 fewer made most o p is some = search (rules, arith)
-
-pub returns-clause-entry : goal.returns-clause-entry
-returns-clause-entry c = λ some. fewer c.run-steps.result.made c.args.most _ c.run-steps.result.entry c.run-steps.ensures.entry some
 
 came_in : (entry : Entry) → entry_in (came_by entry) ≡ Some entry
 came_in Call = refl
@@ -156,9 +147,17 @@ tells c less None is = λ entry stands.
     none_is_some c.run-steps.result.entry entry is
     (c.run-steps.ensures.entry ∙ more_is c.run-steps.result.made c.args.most _ less ∙ ap entry_in (next_step c ∙ came) ∙ came_in entry)
 
-pub returns-clause-told : goal.returns-clause-told
-returns-clause-told c = λ less.
-    subst (λ (s : Shown). Tells s c.args.env c.run-steps.result.entry) (sym (after c)) (tells c less c.run-steps.result.entry refl)
+some_more : (made most : ℕ) (o : Option ℕ) → IsSome (if nat_lt made most then o else None) → made < most
+some_more made most o some = search (rules, arith)
+
+pub returns-clause-tells : goal.returns-clause-tells
+returns-clause-tells c = record {
+  most = c.run-steps.ensures.most;
+  wanted = λ some. some_more c.run-steps.result.made c.args.most _ (subst IsSome c.run-steps.ensures.wanted some);
+  entry = λ some. fewer c.run-steps.result.made c.args.most _ c.run-steps.result.entry c.run-steps.ensures.entry some;
+  told = λ less. subst (λ (s : Shown). Tells s c.args.env c.run-steps.result.entry) (sym (after c)) (tells c less c.run-steps.result.entry refl);
+  apart = c.run-steps.ensures.apart;
+}
 
 pub returns-clause-missed : goal.returns-clause-missed
 returns-clause-missed c = λ less.

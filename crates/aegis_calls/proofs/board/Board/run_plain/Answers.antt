@@ -1,5 +1,5 @@
 -- Plain ticks, with refills between them.
-use Rattle.std.proofs.Common.{ap, ◌≡◌, ◌∙◌, ◌<◌, arith, subst, sym}
+use Rattle.std.proofs.Common.{ap, ◌≡◌, ◌∙◌, ◌<◌, arith, rules, subst, sym}
 use Rattle.board_model.specs.Shown.{Shown}
 use Rattle.board_model.specs.Stretch.{plain_ticks}
 use Rattle.aegis_calls.specs.Cached.{IsOfMiss}
@@ -20,13 +20,13 @@ loop-steps-init c =
       tlb = λ schedule quiet.
           ap (λ (s : Shown). s.tlb) first.after
           ∙ stretch_falls c.law_stretch.ensures.world c.law_stretch.ensures.steady b e k schedule (record { sound = c.law_sound.ensures; runs = c.requires.runs }) first.plain first.found quiet;
-      most = first.most;
-      wanted = first.wanted;
+      most = first.tells.most;
+      wanted = first.tells.wanted;
       stuck = first.stop;
       missed = first.missed;
-      entry = first.entry;
-      told = first.told;
-      apart = first.apart;
+      entry = first.tells.entry;
+      told = first.tells.told;
+      apart = first.tells.apart;
     }
 
 pub loop-steps-preserved : goal.loop-steps-preserved
@@ -40,21 +40,24 @@ loop-steps-preserved c =
     let before = c.loop-steps.invariant in
     let more = c.run_refilled-steps.ensures in
     record {
-      after = board_further b v now e j k before.after more.after;
-      plain = all_plain b v now e j k before.after before.plain more.plain;
-      tlb = all_cached b v now e j k before.after c.law_stretch.ensures.world c.law_further.ensures.caches (record { sound = c.law_sound.ensures; runs = c.requires.runs }) before.plain before.tlb more.tlb;
-      most = omega (arith, before.most, more.most);
-      wanted = λ some. omega (arith, before.most, more.wanted some);
+      after = board_further b v now e j k before.after more.ticks.after;
+      plain = all_plain b v now e j k before.after before.plain more.ticks.plain;
+      tlb = all_cached b v now e j k before.after c.law_stretch.ensures.world c.law_further.ensures.caches (record { sound = c.law_sound.ensures; runs = c.requires.runs }) before.plain before.tlb more.ticks.tlb;
+      most = omega (arith, before.most, more.tells.most);
+      wanted = λ some. omega (arith, before.most, more.tells.wanted some);
       stuck = λ less. more.stop (omega (arith, c.if-steps-eq0.false)) (omega (arith, before.most, less));
       missed = λ less. more.missed (omega (arith, c.if-steps-eq0.false)) (omega (arith, before.most, less));
-      entry = λ some. omega (arith, before.most, more.entry some);
-      told = λ less. more.told (omega (arith, before.most, less));
-      apart = more.apart;
+      entry = λ some. omega (arith, before.most, more.tells.entry some);
+      told = λ less. more.tells.told (omega (arith, before.most, less));
+      apart = more.tells.apart;
     }
 
-pub returns-then-steps-eq0-clause-tlb : goal.returns-then-steps-eq0-clause-tlb
-returns-then-steps-eq0-clause-tlb c =
-    none_cached c.args.self.now c.loop-steps.self c.run_refilled-steps.new.self c.loop-steps.done c.run_refilled-steps.result.made c.if-steps-eq0.true c.loop-steps.invariant.tlb c.run_refilled-steps.ensures.tlb
+pub returns-then-steps-eq0-clause-ticks : goal.returns-then-steps-eq0-clause-ticks
+returns-then-steps-eq0-clause-ticks c = record {
+  after = search rules;
+  plain = search rules;
+  tlb = none_cached c.args.self.now c.loop-steps.self c.run_refilled-steps.new.self c.loop-steps.done c.run_refilled-steps.result.made c.if-steps-eq0.true c.loop-steps.invariant.tlb c.run_refilled-steps.ensures.ticks.tlb;
+}
 
 -- the next step ends the stretch where nothing is wanted any more, and where a refill was in vain
 pub returns-in_default-clause-stop : goal.returns-in_default-clause-stop

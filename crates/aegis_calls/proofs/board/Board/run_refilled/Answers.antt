@@ -1,5 +1,5 @@
 -- A row is refilled, and the runner goes on; or it is put back.
-use Rattle.std.proofs.Common.{◌≡◌, ◌<◌, ◌+◌, ◌/◌, ◌∙◌, ap, sym, refl, subst, arith, ℕ, None, Some}
+use Rattle.std.proofs.Common.{◌≡◌, ◌<◌, ◌+◌, ◌/◌, ◌∙◌, ap, sym, refl, subst, arith, rules, ℕ, None, Some}
 use Rattle.std.specs.Prelude.{slice_index_or, slice_set}
 use Rattle.aegis_limits.specs.Limits.{environment_numbers, page_size, vpn_end}
 use Rattle.r3k_tlb.specs.declared.row.Row.{Row}
@@ -41,7 +41,7 @@ small same sound runs = omega (arith, (runner_live same sound runs).0, sound.few
 pub invariant_of-self-2 : goal.invariant_of-self-2
 invariant_of-self-2 c =
     refilled_is_sound (seen c.self.view_is) c.args.env (c.args.address / page_size) c.random-random.result c.space_in-space.result c.refill.new.tlb c.refill.new.fills c.space_in-space.ensures
-    c.refill.ensures.rows c.refill.ensures.fills c.self.invariant (small c.self.view_is c.self.invariant c.requires.runs) (omega (arith, c.if-vpn-ge-VPN_END.false))
+    c.refill.ensures.rows c.refill.ensures.fills c.self.invariant (small c.self.view_is c.self.invariant c.requires.may.runs) (omega (arith, c.if-vpn-ge-VPN_END.false))
 
 -- ---- ticks were made
 
@@ -53,28 +53,33 @@ raised_for c =
     is_for (seen c.self.view_is) c.args.env (c.args.address / page_size) c.random-random.result c.space_in-space.result c.refill.new.tlb c.refill.new.fills c.space_in-space.ensures
     c.refill.ensures.rows c.refill.ensures.fills c.random-random.ensures.row (sym c.refill.ensures.refilled ∙ c.if-not-refill.false)
 
-pub returns-then-steps-gt0-clause-tlb : goal.returns-then-steps-gt0-clause-tlb
-returns-then-steps-gt0-clause-tlb c = λ schedule quiet.
+pub returns-then-steps-gt0-clause-ticks : goal.returns-then-steps-gt0-clause-ticks
+returns-then-steps-gt0-clause-ticks c =
     let b = seen c.self.view_is in
     let e = c.args.env in
     let k = c.run_found-steps.result.made in
     let its = raised_for c in
-    let few = small c.self.view_is c.self.invariant c.requires.runs in
+    let few = small c.self.view_is c.self.invariant c.requires.may.runs in
     let raised_sound : IsSoundBoard (raised c) =
     refilled_is_sound b e (c.args.address / page_size) c.random-random.result c.space_in-space.result c.refill.new.tlb c.refill.new.fills c.space_in-space.ensures
     c.refill.ensures.rows c.refill.ensures.fills c.self.invariant few (omega (arith, c.if-vpn-ge-VPN_END.false)) in
     let sound : IsSoundBoard (with_row b e its.mapping) = subst IsSoundBoard its.board raised_sound in
-    let has : HasRunner b e = record { sound = c.self.invariant; runs = ap (λ (s : Shown). running s.slots.runner) c.self.view_is ∙ c.requires.runs } in
-    (λ i. record { rows = (c.fall.ensures i).tlb; random = (c.fall.ensures i).cp0.random; fills = c.self-2.inside.fills })
-    ∙ ap (λ (s : Shown). with_random_fallen s.tlb) (c.self-2.view_is ∙ c.run_found-steps.ensures.after)
-    ∙ ap (λ (s : Shown). with_random_fallen (stretched s e k).tlb) its.board
-    ∙ refilled_ticks c.law_stretch.ensures.world c.law_stretch.ensures.steady c.law_right_refill.ensures b e k its.mapping schedule c.if-steps-gt0.true few has
-    (sound_tlb (with_refilled b e its.mapping).tlb sound.rows c.self.invariant)
-    (subst (λ (s : Shown). IsStuck s e) (sym c.self.view_is) c.requires.stuck) its.leads
-    (subst (λ (s : Shown). ArePlain s e k) its.board c.run_found-steps.ensures.plain)
-    (subst (λ (s : Shown). FindRows s e k) its.board c.run_found-steps.ensures.found)
-    (subst (λ (s : Shown). IsQuiet schedule s.time (s.time + k)) (sym c.self.view_is) quiet)
-    ∙ ap (λ (s : Shown). cache_after_ticks schedule (world_of s) k s.tlb) c.self.view_is
+    let has : HasRunner b e = record { sound = c.self.invariant; runs = ap (λ (s : Shown). running s.slots.runner) c.self.view_is ∙ c.requires.may.runs } in
+    record {
+      after = search rules;
+      plain = search rules;
+      tlb = λ schedule quiet.
+          (λ i. record { rows = (c.fall.ensures i).tlb; random = (c.fall.ensures i).cp0.random; fills = c.self-2.inside.fills })
+          ∙ ap (λ (s : Shown). with_random_fallen s.tlb) (c.self-2.view_is ∙ c.run_found-steps.ensures.after)
+          ∙ ap (λ (s : Shown). with_random_fallen (stretched s e k).tlb) its.board
+          ∙ refilled_ticks c.law_stretch.ensures.world c.law_stretch.ensures.steady c.law_right_refill.ensures b e k its.mapping schedule c.if-steps-gt0.true few has
+          (sound_tlb (with_refilled b e its.mapping).tlb sound.rows c.self.invariant)
+          (subst (λ (s : Shown). IsStuck s e) (sym c.self.view_is) c.requires.stuck) its.leads
+          (subst (λ (s : Shown). ArePlain s e k) its.board c.run_found-steps.ensures.plain)
+          (subst (λ (s : Shown). FindRows s e k) its.board c.run_found-steps.ensures.found)
+          (subst (λ (s : Shown). IsQuiet schedule s.time (s.time + k)) (sym c.self.view_is) quiet)
+          ∙ ap (λ (s : Shown). cache_after_ticks schedule (world_of s) k s.tlb) c.self.view_is;
+    }
 
 -- ---- none was made, and the row is put back
 
@@ -121,11 +126,21 @@ is_restored c =
 pub invariant_of-self-3 : goal.invariant_of-self-3
 invariant_of-self-3 c = subst IsSoundBoard (sym (is_restored c)) c.self.invariant
 
-pub returns-clause-tlb : goal.returns-clause-tlb
-returns-clause-tlb c = λ schedule quiet. ap (λ (s : Shown). s.tlb) (is_restored c ∙ c.self.view_is)
+pub returns-clause-ticks : goal.returns-clause-ticks
+returns-clause-ticks c = record {
+  after = search rules;
+  plain = search rules;
+  tlb = λ schedule quiet. ap (λ (s : Shown). s.tlb) (is_restored c ∙ c.self.view_is);
+}
 
-pub returns-clause-told : goal.returns-clause-told
-returns-clause-told c = λ some. subst (λ (s : Shown). Tells s c.args.env None) (sym (is_restored c ∙ c.self.view_is)) c.requires.untold
+pub returns-clause-tells : goal.returns-clause-tells
+returns-clause-tells c = record {
+  most = omega arith;
+  wanted = search rules;
+  entry = search rules;
+  told = λ less. subst (λ (s : Shown). Tells s c.args.env None) (sym (is_restored c ∙ c.self.view_is)) c.requires.untold;
+  apart = search rules;
+}
 
 -- ---- the step ends the stretch
 
@@ -136,7 +151,7 @@ ends_unmapped {b} {now} same e address misses sound runs stuck missed nowhere =
 
 pub returns-then-vpn-ge-VPN_END-clause-ends : goal.returns-then-vpn-ge-VPN_END-clause-ends
 returns-then-vpn-ge-VPN_END-clause-ends c = λ nothing.
-    subst (λ (s : Shown). EndsStretch s c.args.env) c.self.view_is (ends_unmapped c.self.view_is c.args.env c.args.address c.law_misses.ensures c.self.invariant c.requires.runs c.requires.stuck c.requires.missed
+    subst (λ (s : Shown). EndsStretch s c.args.env) c.self.view_is (ends_unmapped c.self.view_is c.args.env c.args.address c.law_misses.ensures c.self.invariant c.requires.may.runs c.requires.stuck c.requires.missed
     (λ below. absurd (omega (arith, below, c.if-vpn-ge-VPN_END.true))))
 
 pub returns-then-not-refill-clause-ends : goal.returns-then-not-refill-clause-ends
@@ -145,7 +160,7 @@ returns-then-not-refill-clause-ends c = λ nothing.
     let kept = not_refilled b c.args.env (c.args.address / page_size) c.random-random.result c.space_in-space.result c.refill.new.tlb c.refill.new.fills c.space_in-space.ensures
     c.refill.ensures.rows c.refill.ensures.fills (sym c.refill.ensures.refilled ∙ c.if-not-refill.true) in
     subst (λ (s : Shown). EndsStretch s c.args.env) (sym kept.1)
-    (ends_unmapped c.self.view_is c.args.env c.args.address c.law_misses.ensures c.self.invariant c.requires.runs c.requires.stuck c.requires.missed (λ below. kept.0))
+    (ends_unmapped c.self.view_is c.args.env c.args.address c.law_misses.ensures c.self.invariant c.requires.may.runs c.requires.stuck c.requires.missed (λ below. kept.0))
 
 pub returns-clause-ends : goal.returns-clause-ends
 returns-clause-ends c = λ nothing.

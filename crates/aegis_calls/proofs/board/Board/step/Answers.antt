@@ -25,8 +25,10 @@ returns-in-Some c =
     record {
       world = ap world_of now ∙ c.law_step.ensures (with_lookups b e) e has c.law_claim_numbers.ensures;
       tlb = ap (λ (s : Shown). s.tlb) now ∙ stepped_course b e (record { sound = c.law_sound.ensures; runs = runs }) b.slots.runner runs;
-      time = ap (λ (s : Shown). s.time) now ∙ leaves.time;
-      numbers = omega (arith, ap (λ (s : Shown). s.claims.next) now, leaves.numbers);
-      whole = ap (λ (s : Shown). s.roster.spare) now ∙ leaves.spare;
+      act = record {
+        time = ap (λ (s : Shown). s.time) now ∙ leaves.time;
+        whole = ap (λ (s : Shown). s.roster.spare) now ∙ leaves.spare;
+        numbers = omega (arith, ap (λ (s : Shown). s.claims.next) now, leaves.numbers);
+      };
       room = omega (arith, ap (λ (s : Shown). s.ledger.spare) now, leaves.room);
     }

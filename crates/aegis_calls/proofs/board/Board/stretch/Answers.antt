@@ -4,21 +4,41 @@ use Rattle.std.specs.Prelude.{IsSome}
 use Rattle.revocation_book.specs.RevocationBook.{RevocationBook, is_any_due, next_deadline}
 use Rattle.slot_vector.specs.Slices.{Slices}
 use Rattle.world_model.specs.declared.slot.Runner.{Runner}
-use Rattle.world_model.specs.Book.{running}
+use Rattle.world_model.specs.Book.{is_idle_book, running}
 use Rattle.board_model.specs.Shown.{Shown}
+use Rattle.board_model.specs.Showing.{world_of}
+use Rattle.board_model.specs.Sound.{HasRunner}
 use Rattle.board_model.specs.Stretch.{plain_ticks}
 use Rattle.aegis_calls.specs.Cached.{EndsStretch}
 use Rattle.aegis_calls.specs.Entering.{StandsAt, Tells}
 use Rattle.aegis_calls.proofs.Attempts.{if_some}
-use Rattle.aegis_calls.proofs.Stretched.{none_due, passed, runs_on}
-use Rattle.aegis_calls.proofs.board.Board.stretch_to_entry.Goals as goal
+use Rattle.aegis_calls.proofs.Stretched.{busy, none_due, passed, runs_on}
+use Rattle.aegis_calls.proofs.board.Board.stretch.Goals as goal
 
 same_runner : (o : Option ℕ) (e f : ℕ) → o ≡ Some e → o ≡ Some f → e ≡ f
 same_runner o e f is too = let both : Some e ≡ Some f = sym is ∙ too in cc
 
-pub returns-in-Some-clause-stop : goal.returns-in-Some-clause-stop
-returns-in-Some-clause-stop c = λ e runs less.
-    subst (EndsStretch c.run_plain.new.self) (same_runner _ c.in-Some.env e (sym c.runner.ensures ∙ c.in-Some.is) runs) (c.run_plain.ensures.stop less)
+pub returns-in-Some-clause-stretch : goal.returns-in-Some-clause-stretch
+returns-in-Some-clause-stretch c =
+    let b = c.args.self.now in
+    let env = c.in-Some.env in
+    let k = c.run_plain.result.made in
+    let ran = c.run_plain.ensures in
+    let has : HasRunner b env = record { sound = c.law_sound.ensures; runs = sym c.runner.ensures ∙ c.in-Some.is } in
+    record {
+      world = λ schedule quiet. ap world_of ran.ticks.after ∙ c.law_stretch.ensures.world b env k schedule has ran.ticks.plain quiet;
+      steady = λ schedule quiet. c.law_stretch.ensures.steady b env k schedule has ran.ticks.plain quiet;
+      tlb = ran.ticks.tlb;
+      idle =
+          ap (λ (s : Shown). is_idle_book (world_of s).book) ran.ticks.after
+          ∙ busy (passed k b.slots.runner) _ env (runs_on k b.slots.runner ∙ has.runs) ∙ sym (busy b.slots.runner _ env has.runs);
+      most = ran.most;
+      stop = λ e runs less. subst (EndsStretch c.run_plain.new.self) (same_runner _ env e has.runs runs) (ran.stop less);
+      time = ap (λ (s : Shown). s.time) ran.ticks.after;
+      numbers = ap (λ (s : Shown). s.claims.next) ran.ticks.after;
+      whole = ap (λ (s : Shown). s.roster.spare) ran.ticks.after;
+      ledger = ap (λ (s : Shown). s.ledger) ran.ticks.after;
+    }
 
 pub returns-in-Some-clause-told : goal.returns-in-Some-clause-told
 returns-in-Some-clause-told c = λ e runs less.
@@ -47,7 +67,7 @@ returns-in-Some-clause-entry c = if_some c.run_plain.result.entry (λ entry is.
     let runs = sym c.runner.ensures ∙ c.in-Some.is in
     let some = subst IsSome (sym is) refl in
     let before = (within_plain b.slots b.revocations b.time c.args.most k (c.run_plain.ensures.early some)).1 in
-    let after = c.run_plain.ensures.after in
+    let after = c.run_plain.ensures.ticks.after in
     let goes : running now.slots.runner ≡ Some env = ap (λ (s : Shown). running s.slots.runner) after ∙ runs_on k b.slots.runner ∙ runs in
     let stands : StandsAt now env entry = subst (Tells now env) is (c.run_plain.ensures.told (c.run_plain.ensures.early some)) in
     record {
