@@ -1,17 +1,10 @@
 -- The limits of the numbers of ledgers and plans.
 use Rattle.std.specs.Prelude.{ℕ, ◌-◌, ◌^◌}
-use Rattle.aegis_limits.specs.Limits.{most_slots}
+use Rattle.aegis_limits.specs.Limits.{most_environments}
 
 -- environments are numbered up to this
 abbrev pub last_environment : ℕ
-last_environment = 31
-
-abbrev pub last_slot : ℕ
-last_slot = most_slots - 1
-
--- an excess is at most this
-abbrev pub most_excess : ℕ
-most_excess = 9
+last_environment = most_environments - 1
 
 -- any other number is below 2 ^ 32
 abbrev pub most_number : ℕ

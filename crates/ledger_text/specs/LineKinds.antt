@@ -1,30 +1,31 @@
 -- The kinds of lines of a report, and which may follow which.
-use Rattle.std.specs.Prelude.{ℕ, Bool, true, false, List, [], ◌∷◌, Option, Some, ◌||◌, if◌then◌else◌, codes}
+use Rattle.std.specs.Prelude.{ℕ, Bool, true, false, List, [], ◌∷◌, Option, Some, is_some, ◌||◌, if◌then◌else◌, codes}
 use Rattle.std.specs.List.{before_first}
 use Rattle.std.specs.Map.{lookup}
 use Rattle.std.specs.Str.{bytes_eq}
+use Rattle.kernel_journal.specs.RowTable.{name_in}
 use Rattle.ledger_text.specs.declared.kind.LineKind.{LineKind}
 use Rattle.ledger_text.specs.declared.kind.LineKind.TheVariants as kind
 use Rattle.ledger_text.specs.Words.{is_space}
 
--- the kinds by their first words
+-- the kinds of other lines than rows by their first words
 abbrev pub kind_names : List (List ℕ × LineKind)
 kind_names =
-    (codes "run", kind.Row) ∷ (codes "stop", kind.Row) ∷ (codes "own", kind.Row) ∷ (codes "pay", kind.Row)
-    ∷ (codes "give", kind.Row) ∷ (codes "async", kind.Row) ∷ (codes "sync", kind.Row) ∷ (codes "end", kind.Row)
-    ∷ (codes "over", kind.Row) ∷ (codes "dead", kind.Row) ∷ (codes "asked", kind.Row) ∷ (codes "take", kind.Row)
-    ∷ (codes "drop", kind.Row) ∷ (codes "sum", kind.Sum) ∷ (codes "env", kind.Env) ∷ (codes "out", kind.Out)
+    (codes "sum", kind.Sum) ∷ (codes "env", kind.Env) ∷ (codes "out", kind.Out)
     ∷ (codes "cpu", kind.Cpu) ∷ (codes "regs", kind.Regs) ∷ (codes "excess", kind.Excess) ∷ (codes "keep", kind.Keep)
     ∷ (codes "page", kind.Page) ∷ (codes "bind", kind.Bind) ∷ (codes "sent", kind.Sent) ∷ (codes "aegis", kind.Title)
     ∷ (codes "done", kind.Done) ∷ []
+
+abbrev pub kind_named : List ℕ → Option LineKind
+kind_named name = if is_some (name_in name) then Some kind.Row else lookup (bytes_eq name) kind_names
 
 abbrev pub first_word : List ℕ → List ℕ
 first_word text = before_first is_space text
 
 -- directly behind the title `end` begins the line that says how the run ended; later it begins a row
 abbrev pub kind_after : LineKind → List ℕ → Option LineKind
-kind_after kind.Title name = if bytes_eq name (codes "end") then Some kind.End else lookup (bytes_eq name) kind_names
-kind_after last name = lookup (bytes_eq name) kind_names
+kind_after kind.Title name = if bytes_eq name (codes "end") then Some kind.End else kind_named name
+kind_after last name = kind_named name
 
 -- whether an environment's lines may end with this one
 abbrev pub ends_env : LineKind → Bool

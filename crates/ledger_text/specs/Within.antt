@@ -1,36 +1,17 @@
 -- Ledgers and plans whose numbers are within their limits.
-use Rattle.std.specs.Prelude.{◌≡◌, ℕ, ◌≤◌, List, All, IfSome, Ok, slice_index}
+use Rattle.std.specs.Prelude.{◌≡◌, ℕ, ◌≤◌, List, All, Ok, slice_index}
 use Rattle.aegis_limits.specs.Limits.{most_ticks}
 use Rattle.kernel_journal.specs.declared.row.Row.{Row}
-use Rattle.kernel_journal.specs.declared.row.Row.TheVariants as row
+use Rattle.kernel_journal.specs.RowTable.{IsRowWithin}
 use Rattle.ledger_text.specs.LedgerText.{LedgerValue, ledger_read}
-use Rattle.ledger_text.specs.Limits.{last_environment, last_slot, most_share}
+use Rattle.ledger_text.specs.Limits.{last_environment, most_share}
 use Rattle.ledger_text.specs.PlanText.{PlanValue, plan_read}
 
 abbrev pub IsTime : ℕ → Type 0
 IsTime t = t ≤ most_ticks
 
-abbrev pub IsSlot : ℕ → Type 0
-IsSlot slot = slot ≤ last_slot
-
 abbrev pub IsEnv : ℕ → Type 0
 IsEnv e = e ≤ last_environment
-
--- the times, slots and environments of a row
-abbrev pub IsRowWithin : Row → Type 0
-IsRowWithin (row.Own t slot owner holder) = IsTime t × IsSlot slot × IfSome owner IsEnv × IfSome holder IsEnv
-IsRowWithin (row.Run t slot e) = IsTime t × IsSlot slot × IsEnv e
-IsRowWithin (row.Pay t slot e) = IsTime t × IsSlot slot × IsEnv e
-IsRowWithin (row.Give t slot from to) = IsTime t × IsSlot slot × IsEnv from × IsEnv to
-IsRowWithin (row.Async t slot from to) = IsTime t × IsSlot slot × IsEnv from × IsEnv to
-IsRowWithin (row.Sync t slot from to) = IsTime t × IsSlot slot × IsEnv from × IsEnv to
-IsRowWithin (row.End t slot e) = IsTime t × IsSlot slot × IsEnv e
-IsRowWithin (row.Over t slot e excess) = IsTime t × IsSlot slot × IsEnv e
-IsRowWithin (row.Stop t slot e) = IsTime t × IsSlot slot × IsEnv e
-IsRowWithin (row.Dead t slot e) = IsTime t × IsSlot slot × IsEnv e
-IsRowWithin (row.Asked t e outstanding deadline) = IsTime t × IsEnv e
-IsRowWithin (row.Take t e page backup) = IsTime t × IsEnv e
-IsRowWithin (row.Unclaimed t size) = IsTime t
 
 -- the environment of a sum
 abbrev pub IsSumWithin : List ℕ → Type 0

@@ -1,7 +1,8 @@
 //! The kinds of lines of a report, and which may follow which.
 ghost use Rattle.std.specs.Prelude.{◌≡◌};
-ghost use Rattle.ledger_text.specs.LineKinds.{before_bind, before_keep, before_page, before_row, before_sum, ends_env, kind_after, may_follow};
+ghost use Rattle.ledger_text.specs.LineKinds.{before_bind, before_keep, before_page, before_row, before_sum, ends_env, kind_after, kind_named, may_follow};
 
+use kernel_journal::RowName;
 use line_text::{TableRow, find, table_rows};
 
 /// The kind of a line.
@@ -39,21 +40,8 @@ pub enum LineKind {
     Done,
 }
 
-/// The kinds by their first words.
-const KIND_NAMES: [TableRow<LineKind>; 25] = table_rows![
-    b"run" => LineKind::Row,
-    b"stop" => LineKind::Row,
-    b"own" => LineKind::Row,
-    b"pay" => LineKind::Row,
-    b"give" => LineKind::Row,
-    b"async" => LineKind::Row,
-    b"sync" => LineKind::Row,
-    b"end" => LineKind::Row,
-    b"over" => LineKind::Row,
-    b"dead" => LineKind::Row,
-    b"asked" => LineKind::Row,
-    b"take" => LineKind::Row,
-    b"drop" => LineKind::Row,
+/// The kinds of other lines than rows by their first words.
+const KIND_NAMES: [TableRow<LineKind>; 12] = table_rows![
     b"sum" => LineKind::Sum,
     b"env" => LineKind::Env,
     b"out" => LineKind::Out,
@@ -77,8 +65,18 @@ pub(crate) fn kind_after(last: LineKind, name: &[u8]) -> Option<LineKind>
 {
     match last {
         LineKind::Title if name == END => Some(LineKind::End),
-        _ => find(&KIND_NAMES, name),
+        _ => kind_named(name),
     }
+}
+
+/// The kind of a line that begins with a word anywhere else.
+fn kind_named(name: &[u8]) -> Option<LineKind>
+    ensures { result ≡ kind_named name.now }
+{
+    if RowName::of(name).is_some() {
+        return Some(LineKind::Row);
+    }
+    find(&KIND_NAMES, name)
 }
 
 /// Whether an environment's lines may end with this one.

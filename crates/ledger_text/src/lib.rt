@@ -8,7 +8,6 @@ mod kind;
 mod laws;
 mod ledger;
 mod plan;
-mod row_names;
 mod rows;
 mod words;
 
