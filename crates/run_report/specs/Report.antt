@@ -10,9 +10,9 @@ use Rattle.boot_image.specs.ImageValue.{name_text}
 use Rattle.bind_book.specs.declared.binding.Binding.{Binding}
 use Rattle.aegis_limits.specs.Limits.{most_stripe_rows}
 use Rattle.kernel_journal.specs.declared.row.Row.{Row}
-use Rattle.kernel_journal.specs.declared.row.Row.TheVariants as row
 use Rattle.kernel_journal.specs.declared.row.RunEnd.{RunEnd}
 use Rattle.kernel_journal.specs.declared.row.RunEnd.TheVariants as end
+use Rattle.kernel_journal.specs.RowTable.{name_of, numbers_of}
 use Rattle.mips_exec.specs.declared.registers.Cpu.{Cpu}
 use Rattle.mips_exec.specs.declared.exception.ExcCode.{ExcCode}
 use Rattle.mips_exec.specs.declared.exception.ExcCode.TheVariants as exc
@@ -147,22 +147,9 @@ env_text w e =
     env_line e (w.solos e) ++ out_line e (w.solos e) ++ if_live (w.solos e).life (living_lines w e)
     ++ sent_lines e (w.solos e).sent
 
--- A row of the ledger: the time, and the row's numbers in their order.
+-- a row of the ledger: its name, and its numbers in their order
 abbrev pub row_line : Row → List ℕ
-row_line (row.Own t slot owner holder) = numbers_line (codes "own") (Some t ∷ Some slot ∷ owner ∷ holder ∷ [])
-row_line (row.Run t slot e) = numbers_line (codes "run") (Some t ∷ Some slot ∷ Some e ∷ [])
-row_line (row.Pay t slot e) = numbers_line (codes "pay") (Some t ∷ Some slot ∷ Some e ∷ [])
-row_line (row.Give t slot from to) = numbers_line (codes "give") (Some t ∷ Some slot ∷ Some from ∷ Some to ∷ [])
-row_line (row.Async t slot from to) = numbers_line (codes "async") (Some t ∷ Some slot ∷ Some from ∷ Some to ∷ [])
-row_line (row.Sync t slot from to) = numbers_line (codes "sync") (Some t ∷ Some slot ∷ Some from ∷ Some to ∷ [])
-row_line (row.End t slot e) = numbers_line (codes "end") (Some t ∷ Some slot ∷ Some e ∷ [])
-row_line (row.Over t slot e excess) = numbers_line (codes "over") (Some t ∷ Some slot ∷ Some e ∷ Some excess ∷ [])
-row_line (row.Stop t slot e) = numbers_line (codes "stop") (Some t ∷ Some slot ∷ Some e ∷ [])
-row_line (row.Dead t slot e) = numbers_line (codes "dead") (Some t ∷ Some slot ∷ Some e ∷ [])
-row_line (row.Asked t e outstanding deadline) =
-    numbers_line (codes "asked") (Some t ∷ Some e ∷ Some outstanding ∷ Some deadline ∷ [])
-row_line (row.Take t e page backup) = numbers_line (codes "take") (Some t ∷ Some e ∷ Some page ∷ backup ∷ [])
-row_line (row.Unclaimed t size) = numbers_line (codes "drop") (Some t ∷ Some size ∷ [])
+row_line r = numbers_line (name_of r) (numbers_of r)
 
 abbrev pub sum_line : List Row → ℕ → List ℕ
 sum_line rows e = numbers_line (codes "sum")
