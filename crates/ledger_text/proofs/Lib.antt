@@ -1,3 +1,4 @@
 mod Cutting
+pub mod Found
 mod Forms
 mod Limited
