@@ -3,8 +3,8 @@ use Rattle.std.proofs.Common.{arith, refl, sym, ◌∙◌, ap, subst, ◌≡◌,
 use Rattle.std.proofs.lemmas.Bool.{cases_lt}
 use Rattle.std.specs.Prelude.{is_none, is_some, not, ◌||◌, Option, None, Some}
 use Rattle.aegis_limits.specs.Limits.{most_slots}
-use Rattle.ledger_rules.specs.LedgerState.{LedgerState}
-use Rattle.ledger_rules.specs.RowRules.{all_below, are_empty, are_passed, is_between, is_empty_slot, is_passed}
+use Rattle.ledger_audit.specs.LedgerState.{LedgerState}
+use Rattle.ledger_audit.specs.RowRules.{all_below, are_empty, are_passed, is_between, is_empty_slot, is_passed}
 
 -- a test that fails below a number
 pub all_below_false : (n k : ℕ) (p : ℕ → Bool) → k < n → p k ≡ false → all_below n p ≡ false

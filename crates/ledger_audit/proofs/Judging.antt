@@ -5,8 +5,8 @@ use Rattle.std.specs.Option.{option_or}
 use Rattle.std.proofs.lemmas.Bool.{and_from, and_parts}
 use Rattle.std.proofs.lemmas.List.{append-nil}
 use Rattle.kernel_journal.specs.declared.row.Row.{Row}
-use Rattle.ledger_rules.specs.LedgerState.{LedgerState, after_row, first_state, state_after}
-use Rattle.ledger_rules.specs.RowRules.{are_fit, is_end, is_fit}
+use Rattle.ledger_audit.specs.LedgerState.{LedgerState, after_row, first_state, state_after}
+use Rattle.ledger_audit.specs.RowRules.{are_fit, is_end, is_fit}
 use Rattle.ledger_text.specs.LedgerText.{LedgerValue}
 use Rattle.ledger_text.specs.PlanText.{PlanValue}
 use Rattle.ledger_audit.specs.declared.answer.AuditAnswer.TheVariants.{Clean, Broken}

@@ -8,8 +8,8 @@ use Rattle.world_model.specs.Book.{has_part, hold_without}
 use Rattle.world_model.specs.Death.{released_row, released_rows}
 use Rattle.world_model.specs.SlotCalls.{slot_row}
 use Rattle.aegis_limits.specs.Limits.{most_slots}
-use Rattle.ledger_rules.specs.LedgerState.{released_by}
-use Rattle.ledger_rules.specs.RowRules.{is_row, stand_first}
+use Rattle.ledger_audit.specs.LedgerState.{released_by}
+use Rattle.ledger_audit.specs.RowRules.{is_row, stand_first}
 use Rattle.ledger_audit.specs.Auditor.{IsBehind}
 
 -- how many there are

@@ -7,11 +7,11 @@ use Rattle.std.proofs.lemmas.List.{length-drop}
 use Rattle.world_model.specs.SlotCalls.{holds}
 use Rattle.kernel_journal.specs.declared.row.Row.{Row}
 use Rattle.kernel_journal.specs.declared.row.Row.TheVariants as row
-use Rattle.ledger_rules.specs.LedgerState.{LedgerState, after_row, due_after, first_state, is_over_by, is_pay_by, is_run_by, more_if, state_from}
-use Rattle.ledger_rules.specs.RowRules.{are_empty, are_passed, is_end_by, is_first, is_fit, is_fit_by_kind, is_gift, is_in_time, is_row, is_runners, stand_first}
+use Rattle.ledger_audit.specs.LedgerState.{LedgerState, after_row, due_after, first_state, is_over_by, is_pay_by, is_run_by, more_if, state_from}
+use Rattle.ledger_audit.specs.RowRules.{are_empty, are_passed, is_end_by, is_first, is_fit, is_fit_by_kind, is_gift, is_in_time, is_row, is_runners, stand_first}
 use Rattle.ledger_text.specs.LedgerText.{LedgerValue}
 use Rattle.ledger_text.specs.PlanText.{PlanValue}
-use Rattle.ledger_text.specs.Within.{IsRowWithin}
+use Rattle.kernel_journal.specs.RowTable.{IsRowWithin}
 use Rattle.ledger_audit.specs.Answer.{end_line, first_fault, first_unfit, first_wrong_sum, rows_of, wrong_end}
 use Rattle.ledger_audit.specs.declared.gifts.Gifts.{Gifts}
 use Rattle.ledger_audit.specs.declared.state.State.{State}
@@ -63,16 +63,7 @@ kind_same : (q : ℕ) (s : LedgerState) (r : Row) (later : List Row) → stand_f
 kind_same q s (row.Own t slot owner holder) later stand = rw (due_first s.due (row.Own t slot owner holder) later stand) refl
 kind_same q s (row.Run t slot e) later stand = rw (passed_undue s slot) refl
 kind_same q s (row.Pay t slot e) later stand = rw (passed_undue s slot) refl
-kind_same q s (row.Give t slot from to) later stand = refl
-kind_same q s (row.Async t slot from to) later stand = refl
-kind_same q s (row.Sync t slot from to) later stand = refl
-kind_same q s (row.End t slot e) later stand = refl
-kind_same q s (row.Over t slot e excess) later stand = refl
-kind_same q s (row.Stop t slot e) later stand = refl
-kind_same q s (row.Dead t slot e) later stand = refl
-kind_same q s (row.Asked t e outstanding deadline) later stand = refl
-kind_same q s (row.Take t e page backup) later stand = refl
-kind_same q s (row.Unclaimed t size) later stand = refl
+kind_same q s r later stand = refl
 
 -- behind a row that fits, those that are due then stand first
 stand_next : (q : ℕ) (s : LedgerState) (r : Row) (later : List Row) → stand_first s.due (r ∷ later) ≡ true
@@ -82,37 +73,17 @@ stand_next q s (row.Own t slot owner holder) later stand fit = rest s.due stand
     rest : (due : List Row) → stand_first due (row.Own t slot owner holder ∷ later) ≡ true → stand_first (drop 1 due) later ≡ true
     rest [] stand = refl
     rest (x ∷ due) stand = (and_parts (is_row x (row.Own t slot owner holder)) (stand_first due later) stand).1
-stand_next q s (row.Run t slot e) later stand fit = refl
-stand_next q s (row.Pay t slot e) later stand fit = refl
-stand_next q s (row.Give t slot from to) later stand fit = refl
-stand_next q s (row.Async t slot from to) later stand fit = refl
 stand_next q s (row.Sync t slot from to) later stand fit =
     (and_parts (holds from (s.slots slot)) (stand_first (due_after (row.Sync t slot from to) s) later)
     (and_parts (is_gift s slot from to) (holds from (s.slots slot) && stand_first (due_after (row.Sync t slot from to) s) later) fit).1).1
-stand_next q s (row.End t slot e) later stand fit = refl
-stand_next q s (row.Over t slot e excess) later stand fit = refl
-stand_next q s (row.Stop t slot e) later stand fit = refl
 stand_next q s (row.Dead t slot e) later stand fit =
     (and_parts (is_runners s slot e) (stand_first (due_after (row.Dead t slot e) s) later) fit).1
-stand_next q s (row.Asked t e outstanding deadline) later stand fit = refl
-stand_next q s (row.Take t e page backup) later stand fit = refl
-stand_next q s (row.Unclaimed t size) later stand fit = refl
+stand_next q s r later stand fit = refl
 
 -- how many are due then
 left_next : (r : Row) (s : LedgerState) → due_left r (length s.due) (undue s) ≡ length (due_after r s)
 left_next (row.Own t slot owner holder) s = sym (length-drop 1 s.due)
-left_next (row.Run t slot e) s = refl
-left_next (row.Pay t slot e) s = refl
-left_next (row.Give t slot from to) s = refl
-left_next (row.Async t slot from to) s = refl
-left_next (row.Sync t slot from to) s = refl
-left_next (row.End t slot e) s = refl
-left_next (row.Over t slot e excess) s = refl
-left_next (row.Stop t slot e) s = refl
-left_next (row.Dead t slot e) s = refl
-left_next (row.Asked t e outstanding deadline) s = refl
-left_next (row.Take t e page backup) s = refl
-left_next (row.Unclaimed t size) s = refl
+left_next r s = refl
 
 -- The pass finds what the rules say, where the rows that are due stand first.
 pub scan_finds : (quantum : ℕ) (ledger : LedgerValue) (plan : Option PlanValue) (rows : List (ℕ × Row)) (s : LedgerState) (gifts : ℕ → ℕ)

@@ -2,8 +2,8 @@
 use Rattle.std.specs.Prelude.{ℕ, ◌+◌, List, [], ◌∷◌, Bool, ◌==◌, ◌&&◌, Option, None, Some, if◌then◌else◌, slice_index}
 use Rattle.std.specs.Option.{option_or}
 use Rattle.kernel_journal.specs.declared.row.Row.{Row}
-use Rattle.ledger_rules.specs.LedgerState.{LedgerState, after_row, first_state, state_after}
-use Rattle.ledger_rules.specs.RowRules.{is_end, is_fit}
+use Rattle.ledger_audit.specs.LedgerState.{LedgerState, after_row, first_state, state_after}
+use Rattle.ledger_audit.specs.RowRules.{is_end, is_fit}
 use Rattle.ledger_text.specs.LedgerText.{LedgerValue}
 use Rattle.ledger_text.specs.PlanText.{PlanValue}
 use Rattle.ledger_audit.specs.declared.answer.AuditAnswer.{AuditAnswer}

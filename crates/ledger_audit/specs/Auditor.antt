@@ -2,8 +2,8 @@
 use Rattle.std.specs.Prelude.{◌≡◌, ℕ, ◌≤◌, ◌-◌, List, [], None, Bool, true, false, ◌&&◌, ◌||◌, nat_lt, if◌then◌else◌, drop, length, slice_index, slice_index_or}
 use Rattle.kernel_journal.specs.declared.row.Row.{Row}
 use Rattle.kernel_journal.specs.declared.row.Row.TheVariants as row
-use Rattle.ledger_rules.specs.LedgerState.{LedgerState, due_after}
-use Rattle.ledger_rules.specs.RowRules.{is_behind, is_change, is_fit_by_kind, is_in_time, same_number, stand_first}
+use Rattle.ledger_audit.specs.LedgerState.{LedgerState, due_after}
+use Rattle.ledger_audit.specs.RowRules.{is_behind, is_change, is_fit_by_kind, is_in_time, same_number, stand_first}
 use Rattle.ledger_audit.specs.declared.state.State.{State}
 
 -- The state of the rules. The rows that are due aren't kept: that they stand behind the row that asks for them is seen

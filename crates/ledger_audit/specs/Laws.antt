@@ -1,8 +1,8 @@
 -- What the auditor's yes is worth: it is given exactly where a ledger keeps the rules.
 use Rattle.std.specs.Prelude.{◌≡◌, ℕ, List, [], ◌∷◌, Bool, true, ◌&&◌, Option, None}
 use Rattle.kernel_journal.specs.declared.row.Row.{Row}
-use Rattle.ledger_rules.specs.LedgerState.{first_state, state_after}
-use Rattle.ledger_rules.specs.RowRules.{are_fit, is_end}
+use Rattle.ledger_audit.specs.LedgerState.{first_state, state_after}
+use Rattle.ledger_audit.specs.RowRules.{are_fit, is_end}
 use Rattle.ledger_text.specs.LedgerText.{LedgerValue}
 use Rattle.ledger_text.specs.PlanText.{PlanValue}
 use Rattle.ledger_audit.specs.declared.answer.AuditAnswer.TheVariants.{Clean}

@@ -1,3 +1,5 @@
+pub mod LedgerState
+pub mod RowRules
 pub mod StrideRule
 pub mod Answer
 pub mod Auditor

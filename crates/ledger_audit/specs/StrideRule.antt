@@ -3,7 +3,7 @@ use Rattle.std.specs.Prelude.{ℕ, ◌*◌, ◌/◌, List, Bool, true, false, no
 use Rattle.std.specs.List.{list_all, list_any}
 use Rattle.kernel_journal.specs.declared.row.Row.{Row}
 use Rattle.kernel_journal.specs.declared.row.Row.TheVariants as row
-use Rattle.ledger_rules.specs.LedgerState.{more_if}
+use Rattle.ledger_audit.specs.LedgerState.{more_if}
 use Rattle.ledger_text.specs.PlanText.{PlanValue}
 
 -- every share divides this

@@ -2,8 +2,8 @@
 ghost use Rattle.std.specs.Prelude.{◌≡◌, ◌≤◌, ◌<◌, ◌∷◌, [], option_map};
 ghost use Rattle.aegis_limits.specs.Limits.{environment_numbers, most_slots};
 ghost use Rattle.kernel_journal.specs.declared.row.Row.TheVariants as row;
-ghost use Rattle.ledger_rules.specs.RowRules.{dies_next, is_behind, is_judged, stand_first};
-ghost use Rattle.ledger_text.specs.Within.{IsRowWithin};
+ghost use Rattle.ledger_audit.specs.RowRules.{dies_next, is_behind, is_judged, stand_first};
+ghost use Rattle.kernel_journal.specs.RowTable.{IsRowWithin};
 ghost use Rattle.world_model.specs.SlotCalls.{dropped, held_by, slot_row};
 ghost use Rattle.ledger_audit.specs.Answer.{rows_of};
 ghost use Rattle.ledger_audit.specs.Auditor.{fits, fits_by_kind, is_runners_change, state_of};
@@ -83,7 +83,8 @@ fn fits_by_kind(state: &State, quantum: u32, row: &Row, later: &[(u32, Row)]) ->
         Row::Dead { time, slot, env } => {
             is_runners(state, slot, env) && released_stand(&state.slots, time, env, later)
         }
-        Row::Asked { .. } | Row::Take { .. } | Row::Unclaimed { .. } => true,
+        // The others may stand anywhere.
+        _ => true,
     }
 }
 

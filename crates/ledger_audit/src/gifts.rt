@@ -2,7 +2,8 @@
 ghost use Rattle.std.specs.Prelude.{◌≡◌, ◌≤◌, ◌<◌, ◌^◌, option_map, All, IfSome};
 ghost use Rattle.std.specs.Option.{option_copied};
 ghost use Rattle.ledger_text.specs.PlanText.{plan_seen};
-ghost use Rattle.ledger_text.specs.Within.{IsPlanWithin, IsClientWithin, IsRowWithin};
+ghost use Rattle.kernel_journal.specs.RowTable.{IsRowWithin};
+ghost use Rattle.ledger_text.specs.Within.{IsPlanWithin, IsClientWithin};
 ghost use Rattle.ledger_audit.specs.StrideRule.{is_before, is_client_next, is_least, keeps_plan, no_gifts, pass_of};
 
 use aegis_limits::ENVIRONMENT_NUMBERS;

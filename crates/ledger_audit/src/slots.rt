@@ -1,7 +1,7 @@
 //! Slots as the rows of a ledger tell of them.
 ghost use Rattle.std.specs.Prelude.{◌≡◌, false, length, IfNone, IfSome, slice_index_or};
-ghost use Rattle.ledger_rules.specs.LedgerState.{released_by};
-ghost use Rattle.ledger_rules.specs.RowRules.{are_empty, are_passed, is_between, is_row, same_number, stand_first};
+ghost use Rattle.ledger_audit.specs.LedgerState.{released_by};
+ghost use Rattle.ledger_audit.specs.RowRules.{are_empty, are_passed, is_between, is_row, same_number, stand_first};
 ghost use Rattle.world_model.specs.Book.{has_part, hold_without, own_hold};
 ghost use Rattle.world_model.specs.Death.{released_row};
 ghost use Rattle.world_model.specs.SlotCalls.{holds, slot_row};

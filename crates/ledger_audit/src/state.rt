@@ -1,7 +1,7 @@
 //! What the auditor keeps of the rows that it has read.
 ghost use Rattle.std.specs.Prelude.{◌≡◌, ◌<◌, ◌≤◌, ◌^◌};
-ghost use Rattle.ledger_rules.specs.LedgerState.{first_state, hold_of, time_of};
-ghost use Rattle.ledger_text.specs.Within.{IsRowWithin};
+ghost use Rattle.ledger_audit.specs.LedgerState.{first_state, hold_of};
+ghost use Rattle.kernel_journal.specs.RowTable.{IsRowWithin};
 ghost use Rattle.ledger_audit.specs.Auditor.{state_of};
 
 use crate::slots::released_count;
@@ -46,7 +46,7 @@ pub(crate) struct State {
 
 impl State {
     ghost use Rattle.std.specs.Prelude.{◌+◌};
-    ghost use Rattle.ledger_rules.specs.LedgerState.{after_row};
+    ghost use Rattle.ledger_audit.specs.LedgerState.{after_row};
     ghost use Rattle.ledger_audit.specs.Auditor.{due_left, undue, IsCounted};
 
     /// The state before the first row.
@@ -81,7 +81,7 @@ impl State {
         ensures state { state_of self.new ≡ undue (after_row row.now (state_of self.old)) }
         ensures due { self.new.due ≡ due_left row.now self.old.due (state_of self.old) }
     {
-        self.time = time_of(row);
+        self.time = row.time();
         let left = self.due;
         self.due = 0;
         if !matches!(row, Row::Own { .. }) {
@@ -134,29 +134,9 @@ impl State {
                 self.turn = time + 1;
                 self.dead[env as usize] = true;
             }
-            Row::Asked { .. } | Row::Take { .. } | Row::Unclaimed { .. } => {}
+            // The others say nothing of slices.
+            _ => {}
         }
-    }
-}
-
-/// The time of a row.
-pub(crate) fn time_of(row: &Row) -> u32
-    ensures { result ≡ time_of row.now }
-{
-    match *row {
-        Row::Own { time, .. }
-        | Row::Run { time, .. }
-        | Row::Pay { time, .. }
-        | Row::Give { time, .. }
-        | Row::Async { time, .. }
-        | Row::Sync { time, .. }
-        | Row::End { time, .. }
-        | Row::Over { time, .. }
-        | Row::Stop { time, .. }
-        | Row::Dead { time, .. }
-        | Row::Asked { time, .. }
-        | Row::Take { time, .. }
-        | Row::Unclaimed { time, .. } => time,
     }
 }
 

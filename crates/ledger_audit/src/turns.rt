@@ -1,12 +1,12 @@
 //! Turns, slices and their limits, as the rows of a ledger tell of them.
 ghost use Rattle.std.specs.Prelude.{◌≡◌, ◌<◌, ◌≤◌};
 ghost use Rattle.aegis_limits.specs.Limits.{environment_numbers, most_slots};
-ghost use Rattle.ledger_rules.specs.LedgerState.{excess_in, limit_in};
-ghost use Rattle.ledger_rules.specs.RowRules.{is_end, is_gift, is_in_time, is_next, is_runners};
+ghost use Rattle.ledger_audit.specs.LedgerState.{excess_in, limit_in};
+ghost use Rattle.ledger_audit.specs.RowRules.{is_end, is_gift, is_in_time, is_next, is_runners};
 ghost use Rattle.ledger_audit.specs.Auditor.{state_of};
 
 use crate::slots::{are_empty, are_passed, holds};
-use crate::state::{State, time_of};
+use crate::state::State;
 use kernel_journal::Row;
 use world_model::Phase;
 
@@ -63,7 +63,7 @@ pub(crate) fn is_in_time(state: &State, quantum: u32, end: u32, row: &Row) -> bo
     requires { 1 ≤ quantum }
     ensures { result ≡ is_in_time quantum end (state_of state.now) row.now }
 {
-    let time = time_of(row);
+    let time = row.time();
     if matches!(row, Row::Own { .. }) && state.at_boot {
         return time == 0;
     }

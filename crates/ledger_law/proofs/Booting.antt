@@ -10,8 +10,8 @@ use Rattle.kernel_journal.specs.declared.row.Row.{Row}
 use Rattle.kernel_journal.specs.declared.row.Row.TheVariants as row
 use Rattle.world_model.specs.Book.{Book, own_hold}
 use Rattle.run_model.specs.Boot.{book_of_image, boot_slot, boot_world, own_row, own_rows, with_all_kept, with_kept}
-use Rattle.ledger_rules.specs.LedgerState.{LedgerState, first_state, state_after, state_from}
-use Rattle.ledger_rules.specs.RowRules.{are_fit, is_behind, is_fit, is_fit_by_kind, is_in_time}
+use Rattle.ledger_audit.specs.LedgerState.{LedgerState, first_state, state_after, state_from}
+use Rattle.ledger_audit.specs.RowRules.{are_fit, is_behind, is_fit, is_fit_by_kind, is_in_time}
 use Rattle.ledger_law.proofs.Told.{Core, IsBound, IsTold, Says, and_true, core, fit_append, state_append}
 
 -- the state once the rows of the slots below n are told

@@ -13,8 +13,8 @@ use Rattle.run_model.specs.Excess.{TurnsGoByRule}
 use Rattle.run_model.specs.NextTurn.{IsNextTurn}
 use Rattle.run_model.specs.Run.{System, TimeIsTick, end_of_run, world_after}
 use Rattle.run_model.proofs.Balance.{boots_accounted}
-use Rattle.ledger_rules.specs.LedgerState.{LedgerState, limit_in, state_after}
-use Rattle.ledger_rules.specs.RowRules.{are_empty, is_empty_slot, is_end}
+use Rattle.ledger_audit.specs.LedgerState.{LedgerState, limit_in, state_after}
+use Rattle.ledger_audit.specs.RowRules.{are_empty, is_empty_slot, is_end}
 use Rattle.ledger_law.specs.LedgerLaw.{EndFits, says_idle}
 use Rattle.ledger_law.proofs.Told.{Core, IsTold, SaysRunner, and_true, core}
 use Rattle.ledger_law.proofs.Turning.{all_true}

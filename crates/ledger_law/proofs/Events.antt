@@ -17,8 +17,8 @@ use Rattle.world_model.specs.Verdict.{asks_one}
 use Rattle.world_model.specs.World.{World, Reply, after, is_living, no_change, run_phases}
 use Rattle.run_model.specs.Excess.{IsAccounted}
 use Rattle.run_model.proofs.Balance.{happen_accounts, settling_accounts, taking_accounts}
-use Rattle.ledger_law.proofs.Told.{Core, IsMute, IsTold, core}
-use Rattle.ledger_law.proofs.Mute.{mute_told}
+use Rattle.ledger_law.proofs.Told.{Core, IsTold, core}
+use Rattle.ledger_law.proofs.Mute.{IsMute, mute_told}
 
 -- a reply that leaves what the book has of slices, with a row at most, which is mute
 pub record Early (w : World) (r : Reply) : Type 0 where

@@ -4,9 +4,18 @@ use Rattle.kernel_journal.specs.declared.row.Row.{Row}
 use Rattle.kernel_journal.specs.declared.row.Row.TheVariants as row
 use Rattle.world_model.specs.declared.slot.Runner.{Runner}
 use Rattle.world_model.specs.World.{World, Reply, after}
-use Rattle.ledger_rules.specs.LedgerState.{LedgerState, after_row, limit_in, state_after, state_from, time_of}
-use Rattle.ledger_rules.specs.RowRules.{are_fit, is_by_limit, is_in_time, is_own_row}
-use Rattle.ledger_law.proofs.Told.{Core, From, IsBound, IsMute, IsTold, Says, SaysRunner, by_limit, core, in_time, lives_before, told_after}
+use Rattle.kernel_journal.specs.RowTable.{time_of}
+use Rattle.ledger_audit.specs.LedgerState.{LedgerState, after_row, limit_in, state_after, state_from}
+use Rattle.ledger_audit.specs.RowRules.{are_fit, is_by_limit, is_in_time, is_own_row}
+use Rattle.ledger_law.proofs.Told.{Core, From, IsBound, IsTold, Says, SaysRunner, by_limit, core, in_time, lives_before, told_after}
+
+-- A row that says nothing of slices.
+abbrev pub IsMute : ℕ → List Row → Type 0
+IsMute time [] = Unit {0}
+IsMute time (row.Asked t e outstanding deadline ∷ []) = t ≡ time
+IsMute time (row.Take t e page backup ∷ []) = t ≡ time
+IsMute time (row.Unclaimed t size ∷ []) = t ≡ time
+IsMute time rows = ⊥
 
 -- the same runner behind a row that says nothing of slices
 still_runs : (q ahead gap : ℕ) (s t : LedgerState) (c : Core) (runner : Option Runner) → t.runner ≡ s.runner → t.turn ≡ s.turn → t.cursor ≡ s.cursor → t.phase ≡ s.phase

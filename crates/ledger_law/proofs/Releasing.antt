@@ -10,8 +10,8 @@ use Rattle.world_model.specs.declared.slot.Hold.{Hold}
 use Rattle.world_model.specs.Book.{has_part, hold_without, own_hold}
 use Rattle.world_model.specs.Death.{released_row, released_rows}
 use Rattle.world_model.specs.SlotCalls.{slot_row}
-use Rattle.ledger_rules.specs.LedgerState.{LedgerState, after_row, limit_in, released_by, slot_by, state_from}
-use Rattle.ledger_rules.specs.RowRules.{are_fit, is_by_limit, is_change, is_first, is_fit, is_fit_by_kind, is_in_time, is_row, same_number, stand_first}
+use Rattle.ledger_audit.specs.LedgerState.{LedgerState, after_row, limit_in, released_by, slot_by, state_from}
+use Rattle.ledger_audit.specs.RowRules.{are_fit, is_by_limit, is_change, is_first, is_fit, is_fit_by_kind, is_in_time, is_row, same_number, stand_first}
 use Rattle.ledger_law.proofs.Told.{and_true, in_time, state_append}
 
 -- rows of slots, all at one time

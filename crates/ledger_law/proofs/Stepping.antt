@@ -33,11 +33,12 @@ use Rattle.call_verdicts.specs.Granted.{GrantedMay}
 use Rattle.run_model.specs.Excess.{Lives}
 use Rattle.run_model.proofs.Phases.{in_turn_is_each}
 use Rattle.run_model.proofs.Telling.{deed_may, told_named, told_own}
-use Rattle.ledger_rules.specs.LedgerState.{LedgerState, after_row, due_after, limit_in, slot_by, state_after, state_from, time_of}
-use Rattle.ledger_rules.specs.RowRules.{are_fit, changed_row, is_by_limit, is_change, is_first, is_fit, is_fit_by_kind, is_gift, is_in_time, is_number, is_own_row, is_row, is_runners, may_change, stand_first}
-use Rattle.ledger_law.proofs.Told.{Core, From, IsBound, IsMute, IsRunning, IsTold, Says, SaysRunner, and_true, by_limit, core, in_time, lives_before, told_after}
+use Rattle.kernel_journal.specs.RowTable.{time_of}
+use Rattle.ledger_audit.specs.LedgerState.{LedgerState, after_row, due_after, limit_in, slot_by, state_after, state_from}
+use Rattle.ledger_audit.specs.RowRules.{are_fit, changed_row, is_by_limit, is_change, is_first, is_fit, is_fit_by_kind, is_gift, is_in_time, is_number, is_own_row, is_row, is_runners, may_change, stand_first}
+use Rattle.ledger_law.proofs.Told.{Core, From, IsBound, IsRunning, IsTold, Says, SaysRunner, and_true, by_limit, core, in_time, lives_before, told_after}
 use Rattle.ledger_law.proofs.Events.{asking_early}
-use Rattle.ledger_law.proofs.Mute.{mute_fits, mute_from, mute_says, mute_spares, mute_told}
+use Rattle.ledger_law.proofs.Mute.{IsMute, mute_fits, mute_from, mute_says, mute_spares, mute_told}
 use Rattle.ledger_law.proofs.Releasing.{Leaves, all_released, at_time_slot, due_fits, released_all, releases_at, slot_row_self, slot_said, slots_leave, stand_self}
 
 -- The runner, as the state has it.

@@ -26,7 +26,7 @@ use Rattle.run_model.specs.NextTurn.{IsNextTurn}
 use Rattle.run_model.specs.Run.{happens_in, next_phases, next_world, world_after_ticks, takings_next, world_after}
 use Rattle.run_model.proofs.Balance.{boots_accounted, step_keeps, ticks_keep_accounts, turn_keeps}
 use Rattle.run_model.proofs.Phases.{run_append}
-use Rattle.ledger_rules.specs.LedgerState.{state_after}
+use Rattle.ledger_audit.specs.LedgerState.{state_after}
 use Rattle.ledger_law.specs.LedgerLaw.{RowsFit}
 use Rattle.ledger_law.proofs.Told.{From, IsTold, SaysRunner, lives_before}
 use Rattle.ledger_law.proofs.Events.{Ready, before_turn_ready}

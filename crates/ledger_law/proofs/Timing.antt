@@ -25,8 +25,9 @@ use Rattle.world_model.specs.World.{World, Reply, after, no_change, no_items, on
 use Rattle.run_model.specs.Excess.{IsAccounted, Lives}
 use Rattle.run_model.proofs.Phases.{in_turn_is_each}
 use Rattle.run_model.proofs.Telling.{told_own}
-use Rattle.ledger_rules.specs.LedgerState.{LedgerState, after_row, excess_in, first_state, is_over_by, is_pay_by, limit_by, limit_in, more_if, state_after, state_from, time_of}
-use Rattle.ledger_rules.specs.RowRules.{are_fit, dies_next, is_by_limit, is_fit, is_fit_by_kind, is_in_time, is_judged, is_own_row, is_runners}
+use Rattle.kernel_journal.specs.RowTable.{time_of}
+use Rattle.ledger_audit.specs.LedgerState.{LedgerState, after_row, excess_in, first_state, is_over_by, is_pay_by, limit_by, limit_in, more_if, state_after, state_from}
+use Rattle.ledger_audit.specs.RowRules.{are_fit, dies_next, is_by_limit, is_fit, is_fit_by_kind, is_in_time, is_judged, is_own_row, is_runners}
 use Rattle.ledger_law.proofs.Told.{Core, From, IsBound, IsRunning, IsTold, Says, SaysRunner, Spares, and_true, by_limit, core, fit_append, from_less, in_time, lives_before, state_append}
 use Rattle.ledger_law.proofs.Stepping.{death_bound, death_dead, death_fits, death_says, get_runs, runners_true}
 

@@ -4,7 +4,6 @@ use Rattle.std.specs.Prelude.{nat_lt, nat_le, if◌then◌else◌}
 use Rattle.std.proofs.lemmas.Bool.{and_parts, lt-ltb, le-leb}
 use Rattle.aegis_limits.specs.Limits.{most_slots, excess_limit}
 use Rattle.kernel_journal.specs.declared.row.Row.{Row}
-use Rattle.kernel_journal.specs.declared.row.Row.TheVariants as row
 use Rattle.world_model.specs.declared.life.Life.{Life}
 use Rattle.world_model.specs.declared.life.Life.TheVariants.{Live, Dead}
 use Rattle.world_model.specs.declared.slot.Hold.{Hold}
@@ -14,8 +13,9 @@ use Rattle.world_model.specs.Item.{Item, absorb, absorb_all, absorbed}
 use Rattle.world_model.specs.Solo.{Solo, is_dead}
 use Rattle.world_model.specs.World.{World, Reply, after}
 use Rattle.run_model.specs.Excess.{Lives}
-use Rattle.ledger_rules.specs.LedgerState.{LedgerState, after_row, first_state, limit_in, state_after, state_from, time_of}
-use Rattle.ledger_rules.specs.RowRules.{are_fit, is_by_limit, is_fit, is_in_time, is_own_row}
+use Rattle.kernel_journal.specs.RowTable.{time_of}
+use Rattle.ledger_audit.specs.LedgerState.{LedgerState, after_row, first_state, limit_in, state_after, state_from}
+use Rattle.ledger_audit.specs.RowRules.{are_fit, is_by_limit, is_fit, is_in_time, is_own_row}
 
 pub and_true : (x y : Bool) → x ≡ true → y ≡ true → (x && y) ≡ true
 and_true true y first second = second
@@ -145,14 +145,6 @@ lives_before w r e lives = by_life (w.solos e).life refl
     by_life (Dead cause) is =
         let same = dead_stays (r.items e) (w.solos e) (ap is_dead is) in
         let never : Dead cause ≡ Live = sym is ∙ sym (ap (λ (s : Solo). s.life) same) ∙ lives in cc
-
--- A row that says nothing of slices.
-abbrev pub IsMute : ℕ → List Row → Type 0
-IsMute time [] = Unit {0}
-IsMute time (row.Asked t e outstanding deadline ∷ []) = t ≡ time
-IsMute time (row.Take t e page backup ∷ []) = t ≡ time
-IsMute time (row.Unclaimed t size ∷ []) = t ≡ time
-IsMute time rows = ⊥
 
 pub by_limit : (q gap : ℕ) (s : LedgerState) (cursor time : ℕ) (runner : Option Runner) → SaysRunner q gap gap s cursor time runner → is_by_limit q s time s.runner ≡ true
 by_limit q gap s cursor time None (nobody, turn) = rw nobody refl

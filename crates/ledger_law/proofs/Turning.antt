@@ -16,8 +16,8 @@ use Rattle.world_model.specs.Tick.{pay_row}
 use Rattle.world_model.specs.World.{World}
 use Rattle.run_model.specs.Excess.{AreSlotsLive, GoesByRule, Lives}
 use Rattle.run_model.specs.NextTurn.{IsNextHeld}
-use Rattle.ledger_rules.specs.LedgerState.{LedgerState, after_row, excess_in, more_if, state_from}
-use Rattle.ledger_rules.specs.RowRules.{all_below, are_fit, are_passed, is_between, is_fit, is_next, is_passed}
+use Rattle.ledger_audit.specs.LedgerState.{LedgerState, after_row, excess_in, more_if, state_from}
+use Rattle.ledger_audit.specs.RowRules.{all_below, are_fit, are_passed, is_between, is_fit, is_next, is_passed}
 use Rattle.ledger_law.proofs.Told.{IsRunning, SaysCursor, and_true, in_time}
 
 -- What stands between the cursor and the next held slot.

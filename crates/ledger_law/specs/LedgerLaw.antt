@@ -4,8 +4,8 @@ use Rattle.boot_image.specs.Accepted.{IsAccepted}
 use Rattle.kernel_journal.specs.declared.row.RunEnd.{RunEnd}
 use Rattle.kernel_journal.specs.declared.row.RunEnd.TheVariants as end
 use Rattle.run_model.specs.Run.{System, end_of_run, world_after}
-use Rattle.ledger_rules.specs.LedgerState.{first_state, state_after}
-use Rattle.ledger_rules.specs.RowRules.{are_fit, is_end}
+use Rattle.ledger_audit.specs.LedgerState.{first_state, state_after}
+use Rattle.ledger_audit.specs.RowRules.{are_fit, is_end}
 use Rattle.ledger_text.specs.LedgerText.{LedgerValue}
 use Rattle.ledger_audit.specs.declared.answer.AuditAnswer.TheVariants.{Clean}
 use Rattle.ledger_audit.specs.Answer.{audit_of, first_wrong_sum, rows_of}

@@ -3,7 +3,7 @@ use Rattle.std.specs.Option.{option_copied}
 use Rattle.kernel_journal.specs.declared.row.Row.{Row}
 use Rattle.ledger_text.specs.LedgerText.{ledger_seen}
 use Rattle.ledger_text.specs.PlanText.{plan_seen}
-use Rattle.ledger_text.specs.Within.{IsRowWithin}
+use Rattle.kernel_journal.specs.RowTable.{IsRowWithin}
 use Rattle.ledger_audit.proofs.Scanning.{counted_more, counted_next, first_within, gifts_next, rest_within, scan_all, scan_next}
 use Rattle.ledger_audit.proofs.pass.first_fault.Goals as goal
 

@@ -3,7 +3,7 @@ use Rattle.std.specs.Option.{option_copied}
 use Rattle.kernel_journal.specs.declared.row.Row.{Row}
 use Rattle.ledger_text.specs.LedgerText.{ledger_seen}
 use Rattle.ledger_text.specs.PlanText.{plan_seen}
-use Rattle.ledger_text.specs.Within.{IsRowWithin}
+use Rattle.kernel_journal.specs.RowTable.{IsRowWithin}
 use Rattle.ledger_audit.specs.Answer.{first_fault}
 use Rattle.ledger_audit.specs.Auditor.{IsCounted, state_of}
 use Rattle.ledger_audit.specs.Gifts.{AreCounted, gifts_of}

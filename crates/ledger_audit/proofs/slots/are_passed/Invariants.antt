@@ -1,5 +1,5 @@
 use Rattle.std.proofs.Common.{◌≡◌, true}
-use Rattle.ledger_rules.specs.RowRules.{all_below, is_passed}
+use Rattle.ledger_audit.specs.RowRules.{all_below, is_passed}
 use Rattle.ledger_audit.specs.Auditor.{state_of}
 use Rattle.ledger_audit.proofs.slots.are_passed.Given as goal
 

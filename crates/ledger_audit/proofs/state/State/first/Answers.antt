@@ -1,6 +1,6 @@
 use Rattle.std.proofs.Common.{arith, sym, subst, ℕ, ◌≤◌, None, false, replicate}
 use Rattle.std.specs.Prelude.{slice_index}
-use Rattle.ledger_rules.specs.LedgerState.{first_state}
+use Rattle.ledger_audit.specs.LedgerState.{first_state}
 use Rattle.ledger_audit.proofs.Everywhere.{same_everywhere, zero_everywhere}
 use Rattle.ledger_audit.proofs.state.State.first.Goals as goal
 

@@ -6,7 +6,8 @@ use Rattle.kernel_journal.specs.declared.row.Row.TheVariants as row
 use Rattle.world_model.specs.declared.slot.Hold.{Hold}
 use Rattle.world_model.specs.Book.{own_hold}
 use Rattle.world_model.specs.SlotCalls.{dropped, holds, in_grace, slot_row}
-use Rattle.ledger_rules.specs.LedgerState.{LedgerState, after_row, due_after, excess_in, limit_in, time_of}
+use Rattle.kernel_journal.specs.RowTable.{time_of}
+use Rattle.ledger_audit.specs.LedgerState.{LedgerState, after_row, due_after, excess_in, limit_in}
 
 abbrev pub same_number : Option ℕ → Option ℕ → Bool
 same_number None None = true

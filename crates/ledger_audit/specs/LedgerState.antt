@@ -4,6 +4,7 @@ use Rattle.std.specs.Option.{option_map}
 use Rattle.aegis_limits.specs.Limits.{most_slots}
 use Rattle.kernel_journal.specs.declared.row.Row.{Row}
 use Rattle.kernel_journal.specs.declared.row.Row.TheVariants as row
+use Rattle.kernel_journal.specs.RowTable.{time_of}
 use Rattle.world_model.specs.declared.slot.Hold.{Hold}
 use Rattle.world_model.specs.declared.slot.Phase.{Phase}
 use Rattle.world_model.specs.declared.slot.Phase.TheVariants as phase
@@ -52,22 +53,6 @@ first_state = record {
   at_boot = true;
   due = [];
 }
-
--- the time of a row
-abbrev pub time_of : Row → ℕ
-time_of (row.Own t slot owner holder) = t
-time_of (row.Run t slot e) = t
-time_of (row.Pay t slot e) = t
-time_of (row.Give t slot from to) = t
-time_of (row.Async t slot from to) = t
-time_of (row.Sync t slot from to) = t
-time_of (row.End t slot e) = t
-time_of (row.Over t slot e excess) = t
-time_of (row.Stop t slot e) = t
-time_of (row.Dead t slot e) = t
-time_of (row.Asked t e outstanding deadline) = t
-time_of (row.Take t e page backup) = t
-time_of (row.Unclaimed t size) = t
 
 -- a slot with an owner and a holder, or an empty one
 abbrev pub hold_of : Option ℕ → Option ℕ → Option Hold

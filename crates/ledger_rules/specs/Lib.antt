@@ -1,2 +1,0 @@
-pub mod LedgerState
-pub mod RowRules
