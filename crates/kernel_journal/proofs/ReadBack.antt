@@ -9,7 +9,7 @@ use Rattle.kernel_journal.specs.declared.table.NumberKind.{NumberKind}
 use Rattle.kernel_journal.specs.declared.table.RowName.{RowName}
 use Rattle.kernel_journal.specs.declared.table.RowName.TheVariants as name
 use Rattle.kernel_journal.specs.declared.reading.RowFault.TheVariants.{Form, Range}
-use Rattle.kernel_journal.specs.RowTable.{AreWithin, IsNumberWithin, IsRowWithin, ReadRowsAreWithin, RowsAreReadBack, are_paired, are_within, asked_row, gift_of, has_form, have_kinds, is_within, kinds_of, most_of, name_in, named_row, numbers_of, over_row, own_row, row_by, row_name, row_of, row_with, take_row, turn_of, unclaimed_row}
+use Rattle.kernel_journal.specs.RowTable.{AreNumbersWithin, IsNumberWithin, IsRowWithin, ReadRowsAreWithin, RowsAreReadBack, are_paired, are_within, asked_of, gift_of, has_form, have_kinds, is_within, kinds_of, most_of, name_in, named_row, numbers_of, over_of, own_of, row_by, row_name, row_of, row_with, take_of, turn_of, unclaimed_of}
 
 -- the test of the limits, and what it says
 number_tests : (kind : NumberKind) (number : Option ℕ) → IsNumberWithin kind number → is_within kind number ≡ true
@@ -20,13 +20,13 @@ number_tested : (kind : NumberKind) (number : Option ℕ) → is_within kind num
 number_tested kind None is = tt
 number_tested kind (Some n) is = leb-true n (most_of kind) is
 
-within_tests : (kinds : List NumberKind) (numbers : List (Option ℕ)) → AreWithin kinds numbers → are_within kinds numbers ≡ true
+within_tests : (kinds : List NumberKind) (numbers : List (Option ℕ)) → AreNumbersWithin kinds numbers → are_within kinds numbers ≡ true
 within_tests [] numbers within = refl
 within_tests (kind ∷ kinds) [] within = refl
 within_tests (kind ∷ kinds) (number ∷ numbers) (here, rest) =
     and_from (is_within kind number) (are_within kinds numbers) (number_tests kind number here) (within_tests kinds numbers rest)
 
-within_tested : (kinds : List NumberKind) (numbers : List (Option ℕ)) → are_within kinds numbers ≡ true → AreWithin kinds numbers
+within_tested : (kinds : List NumberKind) (numbers : List (Option ℕ)) → are_within kinds numbers ≡ true → AreNumbersWithin kinds numbers
 within_tested [] numbers is = tt
 within_tested (kind ∷ kinds) [] is = tt
 within_tested (kind ∷ kinds) (number ∷ numbers) is =
@@ -34,7 +34,7 @@ within_tested (kind ∷ kinds) (number ∷ numbers) is =
     (number_tested kind number parts.0, within_tested kinds numbers parts.1)
 
 -- numbers of a row's form and within its limits are the row
-read : (known : RowName) (numbers : List (Option ℕ)) (r : Row) → has_form known numbers ≡ true → AreWithin (kinds_of known) numbers → row_with known numbers ≡ Some r
+read : (known : RowName) (numbers : List (Option ℕ)) (r : Row) → has_form known numbers ≡ true → AreNumbersWithin (kinds_of known) numbers → row_with known numbers ≡ Some r
     → row_by known numbers ≡ Ok r
 read known numbers r form within made =
     cond-true (has_form known numbers) _ (Err Form) form ∙ (cond-true (are_within (kinds_of known) numbers) _ (Err Range) (within_tests (kinds_of known) numbers within)
@@ -79,23 +79,23 @@ gift_has known made (Some t ∷ Some slot ∷ Some from ∷ Some to ∷ []) r ha
     subst (Has known (Some t ∷ Some slot ∷ Some from ∷ Some to ∷ [])) same (has t slot from to)
 gift_has known made numbers r has is = cc
 
-own_has : (numbers : List (Option ℕ)) (r : Row) → own_row numbers ≡ Some r → Has name.Own numbers r
+own_has : (numbers : List (Option ℕ)) (r : Row) → own_of numbers ≡ Some r → Has name.Own numbers r
 own_has (Some t ∷ Some slot ∷ owner ∷ holder ∷ []) r is = let same : row.Own t slot owner holder ≡ r = cc in subst (Has name.Own _) same (record { called = refl; all = refl })
 own_has numbers r is = cc
 
-over_has : (numbers : List (Option ℕ)) (r : Row) → over_row numbers ≡ Some r → Has name.Over numbers r
+over_has : (numbers : List (Option ℕ)) (r : Row) → over_of numbers ≡ Some r → Has name.Over numbers r
 over_has (Some t ∷ Some slot ∷ Some e ∷ Some excess ∷ []) r is = let same : row.Over t slot e excess ≡ r = cc in subst (Has name.Over _) same (record { called = refl; all = refl })
 over_has numbers r is = cc
 
-asked_has : (numbers : List (Option ℕ)) (r : Row) → asked_row numbers ≡ Some r → Has name.Asked numbers r
+asked_has : (numbers : List (Option ℕ)) (r : Row) → asked_of numbers ≡ Some r → Has name.Asked numbers r
 asked_has (Some t ∷ Some e ∷ Some many ∷ Some deadline ∷ []) r is = let same : row.Asked t e many deadline ≡ r = cc in subst (Has name.Asked _) same (record { called = refl; all = refl })
 asked_has numbers r is = cc
 
-take_has : (numbers : List (Option ℕ)) (r : Row) → take_row numbers ≡ Some r → Has name.Take numbers r
+take_has : (numbers : List (Option ℕ)) (r : Row) → take_of numbers ≡ Some r → Has name.Take numbers r
 take_has (Some t ∷ Some e ∷ Some page ∷ backup ∷ []) r is = let same : row.Take t e page backup ≡ r = cc in subst (Has name.Take _) same (record { called = refl; all = refl })
 take_has numbers r is = cc
 
-unclaimed_has : (numbers : List (Option ℕ)) (r : Row) → unclaimed_row numbers ≡ Some r → Has name.Unclaimed numbers r
+unclaimed_has : (numbers : List (Option ℕ)) (r : Row) → unclaimed_of numbers ≡ Some r → Has name.Unclaimed numbers r
 unclaimed_has (Some t ∷ Some size ∷ []) r is = let same : row.Unclaimed t size ≡ r = cc in subst (Has name.Unclaimed _) same (record { called = refl; all = refl })
 unclaimed_has numbers r is = cc
 
@@ -116,7 +116,7 @@ row_has name.Unclaimed numbers r is = unclaimed_has numbers r is
 
 has_within : (known : RowName) (numbers : List (Option ℕ)) (r : Row) → Has known numbers r → has_form known numbers ≡ true → are_within (kinds_of known) numbers ≡ true → IsRowWithin r
 has_within known numbers r has form within = record {
-  numbers = subst (λ k. AreWithin (kinds_of k) (numbers_of r)) has.called (subst (AreWithin (kinds_of known)) has.all (within_tested (kinds_of known) numbers within));
+  numbers = subst (λ k. AreNumbersWithin (kinds_of k) (numbers_of r)) has.called (subst (AreNumbersWithin (kinds_of known)) has.all (within_tested (kinds_of known) numbers within));
   paired = subst (λ k. are_paired k (numbers_of r) ≡ true) has.called
       (subst (λ ns. are_paired known ns ≡ true) has.all (and_parts (have_kinds (kinds_of known) numbers) (are_paired known numbers) form).1);
 }

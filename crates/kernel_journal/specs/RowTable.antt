@@ -101,9 +101,9 @@ time_of r = first_number (numbers_of r)
 abbrev pub IsNumberWithin : NumberKind → Option ℕ → Type 0
 IsNumberWithin kind number = IfSome number (λ n. n ≤ most_of kind)
 
-abbrev pub AreWithin : List NumberKind → List (Option ℕ) → Type 0
-AreWithin (kind ∷ kinds) (number ∷ numbers) = IsNumberWithin kind number × AreWithin kinds numbers
-AreWithin kinds numbers = Unit {0}
+abbrev pub AreNumbersWithin : List NumberKind → List (Option ℕ) → Type 0
+AreNumbersWithin (kind ∷ kinds) (number ∷ numbers) = IsNumberWithin kind number × AreNumbersWithin kinds numbers
+AreNumbersWithin kinds numbers = Unit {0}
 
 abbrev pub both_or_neither : Option ℕ → Option ℕ → Bool
 both_or_neither None None = true
@@ -116,7 +116,7 @@ are_paired name.Own (t ∷ slot ∷ owner ∷ holder ∷ []) = both_or_neither o
 are_paired known numbers = true
 
 pub record IsRowWithin (r : Row) : Type 0 where
-  pub numbers : AreWithin (kinds_of (row_name r)) (numbers_of r)
+  pub numbers : AreNumbersWithin (kinds_of (row_name r)) (numbers_of r)
   pub paired : are_paired (row_name r) (numbers_of r) ≡ true
 
 -- READING. The name that a text is.
@@ -165,41 +165,41 @@ abbrev pub gift_of : List (Option ℕ) → Option (ℕ × ℕ × ℕ × ℕ)
 gift_of (Some t ∷ Some slot ∷ Some from ∷ Some to ∷ []) = Some (t, slot, from, to)
 gift_of numbers = None
 
-abbrev pub own_row : List (Option ℕ) → Option Row
-own_row (Some t ∷ Some slot ∷ owner ∷ holder ∷ []) = Some (row.Own t slot owner holder)
-own_row numbers = None
+abbrev pub own_of : List (Option ℕ) → Option Row
+own_of (Some t ∷ Some slot ∷ owner ∷ holder ∷ []) = Some (row.Own t slot owner holder)
+own_of numbers = None
 
-abbrev pub over_row : List (Option ℕ) → Option Row
-over_row (Some t ∷ Some slot ∷ Some e ∷ Some excess ∷ []) = Some (row.Over t slot e excess)
-over_row numbers = None
+abbrev pub over_of : List (Option ℕ) → Option Row
+over_of (Some t ∷ Some slot ∷ Some e ∷ Some excess ∷ []) = Some (row.Over t slot e excess)
+over_of numbers = None
 
-abbrev pub asked_row : List (Option ℕ) → Option Row
-asked_row (Some t ∷ Some e ∷ Some outstanding ∷ Some deadline ∷ []) = Some (row.Asked t e outstanding deadline)
-asked_row numbers = None
+abbrev pub asked_of : List (Option ℕ) → Option Row
+asked_of (Some t ∷ Some e ∷ Some outstanding ∷ Some deadline ∷ []) = Some (row.Asked t e outstanding deadline)
+asked_of numbers = None
 
-abbrev pub take_row : List (Option ℕ) → Option Row
-take_row (Some t ∷ Some e ∷ Some page ∷ backup ∷ []) = Some (row.Take t e page backup)
-take_row numbers = None
+abbrev pub take_of : List (Option ℕ) → Option Row
+take_of (Some t ∷ Some e ∷ Some page ∷ backup ∷ []) = Some (row.Take t e page backup)
+take_of numbers = None
 
-abbrev pub unclaimed_row : List (Option ℕ) → Option Row
-unclaimed_row (Some t ∷ Some size ∷ []) = Some (row.Unclaimed t size)
-unclaimed_row numbers = None
+abbrev pub unclaimed_of : List (Option ℕ) → Option Row
+unclaimed_of (Some t ∷ Some size ∷ []) = Some (row.Unclaimed t size)
+unclaimed_of numbers = None
 
 -- the row of a name with these numbers, if they have its form
 abbrev pub row_with : RowName → List (Option ℕ) → Option Row
-row_with name.Own numbers = own_row numbers
+row_with name.Own numbers = own_of numbers
 row_with name.Run numbers = option_map (λ x. row.Run x.0 x.1 x.2) (turn_of numbers)
 row_with name.Pay numbers = option_map (λ x. row.Pay x.0 x.1 x.2) (turn_of numbers)
 row_with name.Give numbers = option_map (λ x. row.Give x.0 x.1 x.2 x.3) (gift_of numbers)
 row_with name.Async numbers = option_map (λ x. row.Async x.0 x.1 x.2 x.3) (gift_of numbers)
 row_with name.Sync numbers = option_map (λ x. row.Sync x.0 x.1 x.2 x.3) (gift_of numbers)
 row_with name.End numbers = option_map (λ x. row.End x.0 x.1 x.2) (turn_of numbers)
-row_with name.Over numbers = over_row numbers
+row_with name.Over numbers = over_of numbers
 row_with name.Stop numbers = option_map (λ x. row.Stop x.0 x.1 x.2) (turn_of numbers)
 row_with name.Dead numbers = option_map (λ x. row.Dead x.0 x.1 x.2) (turn_of numbers)
-row_with name.Asked numbers = asked_row numbers
-row_with name.Take numbers = take_row numbers
-row_with name.Unclaimed numbers = unclaimed_row numbers
+row_with name.Asked numbers = asked_of numbers
+row_with name.Take numbers = take_of numbers
+row_with name.Unclaimed numbers = unclaimed_of numbers
 
 -- A fault of form comes before one of range.
 abbrev pub row_by : RowName → List (Option ℕ) → Result Row RowFault

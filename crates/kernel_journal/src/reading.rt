@@ -1,6 +1,6 @@
 //! A row that is read from its name and numbers.
 ghost use Rattle.std.specs.Prelude.{◌≡◌, ◌∷◌, []};
-ghost use Rattle.kernel_journal.specs.RowTable.{AreWithin, ReadRowsAreWithin, RowsAreReadBack, are_paired, are_within, asked_row, each_has_kind, gift_of, has_form, has_kind, have_kinds, is_within, kinds_of, own_row, over_row, row_by, row_of, row_with, take_row, turn_of, unclaimed_row};
+ghost use Rattle.kernel_journal.specs.RowTable.{AreNumbersWithin, ReadRowsAreWithin, RowsAreReadBack, are_paired, are_within, asked_of, each_has_kind, gift_of, has_form, has_kind, have_kinds, is_within, kinds_of, own_of, over_of, row_by, row_of, row_with, take_of, turn_of, unclaimed_of};
 ghost use Rattle.kernel_journal.specs.declared.table.NumberKind.TheVariants.{Env, EnvOrNone, Excess, Number, NumberOrNone, Slot, Time};
 
 use crate::row::Row;
@@ -104,11 +104,11 @@ fn is_within(kind: NumberKind, number: Option<u64>) -> bool
 
 /// The row of this name with numbers that are within their limits, if they have its form.
 fn row_with(name: RowName, numbers: &[Option<u64>]) -> Option<Row>
-    requires { AreWithin (kinds_of name) numbers.now }
+    requires { AreNumbersWithin (kinds_of name) numbers.now }
     ensures { result ≡ row_with name numbers.now }
 {
     match name {
-        RowName::Own => own_row(numbers),
+        RowName::Own => own(numbers),
         RowName::Run => turn(numbers).map(|(time, slot, env)| Row::Run { time, slot, env }),
         RowName::Pay => turn(numbers).map(|(time, slot, env)| Row::Pay { time, slot, env }),
         RowName::Give => gift(numbers).map(|(time, slot, from, to)| Row::Give {
@@ -130,18 +130,18 @@ fn row_with(name: RowName, numbers: &[Option<u64>]) -> Option<Row>
             to,
         }),
         RowName::End => turn(numbers).map(|(time, slot, env)| Row::End { time, slot, env }),
-        RowName::Over => over_row(numbers),
+        RowName::Over => over(numbers),
         RowName::Stop => turn(numbers).map(|(time, slot, env)| Row::Stop { time, slot, env }),
         RowName::Dead => turn(numbers).map(|(time, slot, env)| Row::Dead { time, slot, env }),
-        RowName::Asked => asked_row(numbers),
-        RowName::Take => take_row(numbers),
-        RowName::Unclaimed => unclaimed_row(numbers),
+        RowName::Asked => asked(numbers),
+        RowName::Take => take(numbers),
+        RowName::Unclaimed => unclaimed(numbers),
     }
 }
 
 /// A time, a slot and an environment.
 fn turn(numbers: &[Option<u64>]) -> Option<(u32, u32, u8)>
-    requires { AreWithin (Time ∷ Slot ∷ Env ∷ []) numbers.now }
+    requires { AreNumbersWithin (Time ∷ Slot ∷ Env ∷ []) numbers.now }
     ensures { result ≡ turn_of numbers.now }
 {
     let [Some(time), Some(slot), Some(env)] = *numbers else {
@@ -152,7 +152,7 @@ fn turn(numbers: &[Option<u64>]) -> Option<(u32, u32, u8)>
 
 /// A time, a slot and two environments.
 fn gift(numbers: &[Option<u64>]) -> Option<(u32, u32, u8, u8)>
-    requires { AreWithin (Time ∷ Slot ∷ Env ∷ Env ∷ []) numbers.now }
+    requires { AreNumbersWithin (Time ∷ Slot ∷ Env ∷ Env ∷ []) numbers.now }
     ensures { result ≡ gift_of numbers.now }
 {
     let [Some(time), Some(slot), Some(from), Some(to)] = *numbers else {
@@ -161,9 +161,9 @@ fn gift(numbers: &[Option<u64>]) -> Option<(u32, u32, u8, u8)>
     Some((time as u32, slot as u32, from as u8, to as u8))
 }
 
-fn own_row(numbers: &[Option<u64>]) -> Option<Row>
-    requires { AreWithin (Time ∷ Slot ∷ EnvOrNone ∷ EnvOrNone ∷ []) numbers.now }
-    ensures { result ≡ own_row numbers.now }
+fn own(numbers: &[Option<u64>]) -> Option<Row>
+    requires { AreNumbersWithin (Time ∷ Slot ∷ EnvOrNone ∷ EnvOrNone ∷ []) numbers.now }
+    ensures { result ≡ own_of numbers.now }
 {
     let [Some(time), Some(slot), owner, holder] = *numbers else {
         return None;
@@ -176,9 +176,9 @@ fn own_row(numbers: &[Option<u64>]) -> Option<Row>
     })
 }
 
-fn over_row(numbers: &[Option<u64>]) -> Option<Row>
-    requires { AreWithin (Time ∷ Slot ∷ Env ∷ Excess ∷ []) numbers.now }
-    ensures { result ≡ over_row numbers.now }
+fn over(numbers: &[Option<u64>]) -> Option<Row>
+    requires { AreNumbersWithin (Time ∷ Slot ∷ Env ∷ Excess ∷ []) numbers.now }
+    ensures { result ≡ over_of numbers.now }
 {
     let [Some(time), Some(slot), Some(env), Some(excess)] = *numbers else {
         return None;
@@ -191,9 +191,9 @@ fn over_row(numbers: &[Option<u64>]) -> Option<Row>
     })
 }
 
-fn asked_row(numbers: &[Option<u64>]) -> Option<Row>
-    requires { AreWithin (Time ∷ Env ∷ Number ∷ Number ∷ []) numbers.now }
-    ensures { result ≡ asked_row numbers.now }
+fn asked(numbers: &[Option<u64>]) -> Option<Row>
+    requires { AreNumbersWithin (Time ∷ Env ∷ Number ∷ Number ∷ []) numbers.now }
+    ensures { result ≡ asked_of numbers.now }
 {
     let [Some(time), Some(env), Some(outstanding), Some(deadline)] = *numbers else {
         return None;
@@ -206,9 +206,9 @@ fn asked_row(numbers: &[Option<u64>]) -> Option<Row>
     })
 }
 
-fn take_row(numbers: &[Option<u64>]) -> Option<Row>
-    requires { AreWithin (Time ∷ Env ∷ Number ∷ NumberOrNone ∷ []) numbers.now }
-    ensures { result ≡ take_row numbers.now }
+fn take(numbers: &[Option<u64>]) -> Option<Row>
+    requires { AreNumbersWithin (Time ∷ Env ∷ Number ∷ NumberOrNone ∷ []) numbers.now }
+    ensures { result ≡ take_of numbers.now }
 {
     let [Some(time), Some(env), Some(page), backup] = *numbers else {
         return None;
@@ -221,9 +221,9 @@ fn take_row(numbers: &[Option<u64>]) -> Option<Row>
     })
 }
 
-fn unclaimed_row(numbers: &[Option<u64>]) -> Option<Row>
-    requires { AreWithin (Time ∷ Number ∷ []) numbers.now }
-    ensures { result ≡ unclaimed_row numbers.now }
+fn unclaimed(numbers: &[Option<u64>]) -> Option<Row>
+    requires { AreNumbersWithin (Time ∷ Number ∷ []) numbers.now }
+    ensures { result ≡ unclaimed_of numbers.now }
 {
     let [Some(time), Some(length)] = *numbers else {
         return None;
