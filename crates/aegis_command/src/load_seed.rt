@@ -9,7 +9,7 @@ ghost use Rattle.aegis_command.specs.LoadSeed.{load_seed, load_summary, load_tic
 
 use crate::ticks::Ticks;
 use aegis_limits::OutOfMemory;
-use aegis_tick::{boot, run};
+use aegis_tick::Course;
 use boot_image::{Image, read_image};
 use commands::{Answer, Command, Status};
 use exos_text::{load_image, load_schedule};
@@ -74,9 +74,9 @@ fn push_run(
     requires { are_in_order 0 events.now ≡ true }
     ensures { OnOk result (out.new.items ≡ out.old.items ++ summary_after image.now events.now ticks.number) }
 {
-    let mut board = boot(alloc, image)?;
-    let end = run(&mut board, events, ticks.number)?;
-    push_summary(alloc, out, &board, end)
+    let mut course = Course::boot(alloc, image, events)?;
+    let end = course.run(ticks.number)?;
+    push_summary(alloc, out, &course.board, end)
 }
 
 /// The line that names the seed.

@@ -7,7 +7,7 @@ ghost use Rattle.aegis_command.specs.RunImage.{report_after as report_text_after
 use crate::system_files::{SystemFiles, read_system};
 use crate::ticks::Ticks;
 use aegis_limits::OutOfMemory;
-use aegis_tick::{boot, run};
+use aegis_tick::Course;
 use boot_image::Image;
 use commands::{Answer, Command, Status, content};
 use external_event::Event;
@@ -54,9 +54,9 @@ fn report_after(
     requires { are_in_order 0 events.now ≡ true }
     ensures { IfOk result (λ text. text.items ≡ report_text_after image.now events.now ticks.number) }
 {
-    let mut board = boot(alloc, image)?;
-    let end = run(&mut board, events, ticks.number)?;
-    report(alloc, &board, end)
+    let mut course = Course::boot(alloc, image, events)?;
+    let end = course.run(ticks.number)?;
+    report(alloc, &course.board, end)
 }
 
 /// What is due for a run of these files: the first fault, or the report.

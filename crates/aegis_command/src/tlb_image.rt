@@ -7,7 +7,7 @@ ghost use Rattle.aegis_command.specs.TlbImage.{report_and_tlb, tlb_due, tlb_imag
 use crate::system_files::{SystemFiles, read_system};
 use crate::ticks::Ticks;
 use aegis_limits::OutOfMemory;
-use aegis_tick::{boot, run};
+use aegis_tick::Course;
 use boot_image::Image;
 use commands::{Answer, Command, Status, content};
 use external_event::Event;
@@ -53,10 +53,10 @@ fn report_and_tlb(
     requires { are_in_order 0 events.now ≡ true }
     ensures { IfOk result (λ text. text.items ≡ report_and_tlb image.now events.now ticks.number) }
 {
-    let mut board = boot(alloc, image)?;
-    let end = run(&mut board, events, ticks.number)?;
-    let mut text = report(alloc, &board, end)?;
-    let tlb = tlb_text(alloc, &board, end)?;
+    let mut course = Course::boot(alloc, image, events)?;
+    let end = course.run(ticks.number)?;
+    let mut text = report(alloc, &course.board, end)?;
+    let tlb = tlb_text(alloc, &course.board, end)?;
     text.extend_from_slice(&tlb)?;
     Ok(text)
 }

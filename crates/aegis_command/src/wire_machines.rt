@@ -4,7 +4,6 @@ ghost use Rattle.std.specs.List.{AllByRecursion};
 ghost use Rattle.board_model.specs.Shown.{Shown};
 ghost use Rattle.board_model.specs.Showing.{world_of};
 ghost use Rattle.edge_io.specs.Reads.{held};
-ghost use Rattle.run_model.specs.Run.{end_of_run};
 ghost use Rattle.wire_model.specs.Limits.{most_delay, most_wire_ticks};
 ghost use Rattle.commands.specs.Command.{IsShort};
 ghost use Rattle.aegis_command.specs.Pairs.{ArePairs, IsPair, IsPairAt};
@@ -13,10 +12,9 @@ ghost use Rattle.aegis_command.specs.WireMachines.{are_pairs, delay_of, machine_
 use crate::system_files::{SystemFiles, read_system};
 use aegis_calls::Board;
 use aegis_limits::OutOfMemory;
-use aegis_tick::boot;
+use aegis_tick::{boot, end_of_run};
 use commands::{Answer, Command, Status, content};
 use external_event::Event;
-use kernel_journal::RunEnd;
 use line_text::{Word, decimal, push_line};
 use run_report::report;
 use std::alloc::Global;
@@ -192,17 +190,6 @@ fn pairs_of(alloc: Global, names: &[String], contents: &[Vec<u8>]) -> Result<Pai
     Ok(Pairs::Sound(Machines { boards, schedules }))
 }
 
-/// How the run of a board ended, of so many ticks.
-fn end_of(board: &Board, ticks: u32) -> RunEnd
-    ensures { result ≡ end_of_run (world_of board.now) ticks }
-{
-    if board.time() == ticks {
-        RunEnd::Limit
-    } else {
-        RunEnd::Idle
-    }
-}
-
 /// Appends the number of a machine, and its report after so many ticks.
 #[tactic(auto, unfolding(line_text::specs::WrittenLine::line_of))]
 fn push_machine(
@@ -215,7 +202,7 @@ fn push_machine(
     ensures { OnOk result (out.new.items ≡ out.old.items ++ machine_report machine (world_of board.now) ticks) }
 {
     push_line(out, b"machine", &[Word::Number(machine as u64)])?;
-    let text = report(alloc, board, end_of(board, ticks))?;
+    let text = report(alloc, board, end_of_run(board, ticks))?;
     out.extend_from_slice(&text)?;
     Ok(())
 }

@@ -7,11 +7,13 @@ use Rattle.world_model.specs.Book.{is_idle_book}
 use Rattle.world_model.specs.Event.{Schedule, happen}
 use Rattle.world_model.specs.Tick.{tick_phases, tick_step}
 use Rattle.world_model.specs.World.{World, after, run_phases}
+use Rattle.run_model.specs.Boot.{boot_world}
 use Rattle.run_model.specs.Excess.{IsAccounted, TicksKeepAccounts}
-use Rattle.run_model.specs.Run.{happens_in, next_phases, world_after_ticks, takings_next}
+use Rattle.run_model.specs.Run.{System, happens_in, next_phases, takings_next, world_after}
 use Rattle.run_model.proofs.Balance.{happen_accounts}
 use Rattle.run_model.proofs.Phases.{run_append}
-use Rattle.aegis_tick.specs.Course.{HappenedInPart, IsCutOff, occurrences, world_with}
+use Rattle.aegis_tick.specs.Agenda.{occurrences}
+use Rattle.aegis_tick.specs.Course.{HappenedInPart, IsCutOff, world_with}
 
 -- one more
 pub one_more : (w : World) (es : List EventValue) (i : ℕ) (e : EventValue) → i < length es → e ≡ get_or es i e →
@@ -42,11 +44,11 @@ still_accounted [] w good = good
 still_accounted (what ∷ happens) w good = still_accounted happens (after w (happen what w)) (happen_accounts what w good)
 
 -- where what happens in a tick happened in part, the run was cut off
-pub cut_off : (schedule : Schedule) (w v u : World) (t ticks : ℕ) (happens : List Occurrence) → v ≡ world_after_ticks schedule w t → t < ticks → is_idle_book v.book ≡ false
-    → happens_in schedule v ≡ happens → HappenedInPart happens v u → IsCutOff schedule w ticks u
-cut_off schedule w v u t ticks happens now fewer busy are part = search rules
+pub cut_off : (system : System) (v u : World) (t ticks : ℕ) → v ≡ world_after system t → t < ticks → is_idle_book v.book ≡ false
+    → HappenedInPart (happens_in system.schedule v) v u → IsCutOff system ticks u
+cut_off system v u t ticks now fewer busy part = search rules
 
-pub cut_accounted : TicksKeepAccounts → (schedule : Schedule) (w : World) (ticks : ℕ) (u : World) → IsCutOff schedule w ticks u → IsAccounted w → IsAccounted u
-cut_accounted keep schedule w ticks u cut good =
-    let v = world_after_ticks schedule w cut.done in
-    subst IsAccounted (sym cut.is) (still_accounted (take cut.events (happens_in schedule v)) v (keep schedule w good cut.done))
+pub cut_accounted : TicksKeepAccounts → (system : System) (ticks : ℕ) (u : World) → IsCutOff system ticks u → IsAccounted (boot_world system.image) → IsAccounted u
+cut_accounted keep system ticks u cut good =
+    let v = world_after system cut.done in
+    subst IsAccounted (sym cut.is) (still_accounted (take cut.events (happens_in system.schedule v)) v (keep system.schedule (boot_world system.image) good cut.done))

@@ -2,6 +2,7 @@ mod Whole
 mod Cached
 mod Coming
 mod Happening
+mod OnCourse
 mod Refusals
 mod Booted
 mod Programs

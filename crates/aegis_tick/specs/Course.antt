@@ -1,35 +1,24 @@
 -- The course of a run: what happens in it, and how far it came where memory ran out.
-use Rattle.std.specs.Prelude.{◌≡◌, ℕ, ◌+◌, ◌*◌, ◌<◌, ◌≤◌, List, [], ◌∷◌, map, take, false, Result, IsOk}
+use Rattle.std.specs.Prelude.{◌≡◌, ℕ, ◌+◌, ◌*◌, ◌<◌, ◌≤◌, List, map, take, false, Result, IsOk}
 use Rattle.external_event.specs.declared.event.Occurrence.{Occurrence}
-use Rattle.external_event.specs.EventValue.{EventValue}
 use Rattle.world_model.specs.Book.{is_idle_book}
-use Rattle.world_model.specs.Event.{Schedule, happen, schedule_of}
+use Rattle.world_model.specs.Event.{happen}
 use Rattle.world_model.specs.World.{World, run_phases}
-use Rattle.run_model.specs.Run.{happens_in, world_after_ticks}
+use Rattle.run_model.specs.Run.{System, happens_in, world_after}
 use Rattle.aegis_calls.specs.Rows.{tick_rows}
-
--- what happens by these events, in order
-abbrev pub occurrences : List EventValue → List Occurrence
-occurrences events = map (λ (x : EventValue). x.what) events
 
 -- the world once these have happened, one after another
 abbrev pub world_with : List Occurrence → World → World
 world_with happens w = run_phases w (map happen happens)
 
--- the time of the first of these, or a time behind every tick, if there is none
-abbrev pub next_time_of : List EventValue → ℕ
-next_time_of [] = 4294967295
-next_time_of (x ∷ xs) = x.time
-
 -- A run was cut off: after fewer ticks than were asked, in a world that isn't idle, once so many events of its next
 -- tick had happened.
-pub record IsCutOff (schedule : Schedule) (w : World) (ticks : ℕ) (v : World) : Type 0 where
+pub record IsCutOff (system : System) (ticks : ℕ) (v : World) : Type 0 where
   pub done : ℕ
   pub fewer : done < ticks
-  pub busy : is_idle_book (world_after_ticks schedule w done).book ≡ false
+  pub busy : is_idle_book (world_after system done).book ≡ false
   pub events : ℕ
-  pub is : v ≡ world_with (take events (happens_in schedule (world_after_ticks schedule w done)))
-      (world_after_ticks schedule w done)
+  pub is : v ≡ (let w = world_after system done in world_with (take events (happens_in system.schedule w)) w)
 
 -- Some first ones of these have happened.
 abbrev pub HappenedInPart : List Occurrence → World → World → Type 0
@@ -44,7 +33,3 @@ IsSure steps result spare left = tick_rows * steps ≤ spare → IsOk result × 
 abbrev pub IsReady : {T E : Type 0} → ℕ → Result T E → ℕ → ℕ → Type 0
 IsReady events result spare left =
     tick_rows * (events + 1) ≤ spare → IsOk result × (spare ≤ left + tick_rows * events)
-
--- These events are those of the others that come after a time.
-abbrev pub AreLater : ℕ → List EventValue → List EventValue → Type 0
-AreLater time events later = (t : ℕ) → time < t → schedule_of events t ≡ schedule_of later t

@@ -1,2 +1,4 @@
+pub mod Agenda
 pub mod Course
 pub mod Halves
+pub mod OnCourse

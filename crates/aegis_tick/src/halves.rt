@@ -1,9 +1,10 @@
-//! A tick in its two halves, for whoever looks at the board in between.
+//! A tick in its two halves.
 ghost use Rattle.std.specs.Prelude.{◌≡◌, ◌≤◌, ◌+◌, ◌*◌, length, IsOk, OnOk, OnErr};
 ghost use Rattle.board_model.specs.Showing.{world_of};
 ghost use Rattle.board_model.specs.Ticks.{IsSameTick, IsTicked, MayTick};
 ghost use Rattle.tlb_course.specs.Course.{cache_finished, cache_served};
-ghost use Rattle.aegis_tick.specs.Course.{HappenedInPart, occurrences, world_with};
+ghost use Rattle.aegis_tick.specs.Agenda.{occurrences};
+ghost use Rattle.aegis_tick.specs.Course.{HappenedInPart, world_with};
 ghost use Rattle.aegis_tick.specs.Halves.{MayFinish, first_half, second_half};
 
 use crate::running::{TICK_ROWS, happen_first};
@@ -12,12 +13,12 @@ use aegis_limits::OutOfMemory;
 use external_event::Event;
 
 /// Rows enough for the second half of a tick, with its step and the timer.
-pub const HALF_ROWS: u32 = 2 * STEP_ROWS as u32;
+pub(crate) const HALF_ROWS: u32 = 2 * STEP_ROWS as u32;
 
 /// The first half of a tick: the deadlines that have come are served, and the turn is taken, so that somebody runs. It
 /// takes no memory, and leaves the rows that the second half wants.
 #[inline(always)]
-pub fn begin_tick(board: &mut Board)
+pub(crate) fn begin_tick(board: &mut Board)
     requires may { MayTick board.old }
     requires room { TICK_ROWS ≤ board.old.ledger.spare }
     ensures world { world_of board.new ≡ first_half (world_of board.old) }
@@ -32,7 +33,7 @@ pub fn begin_tick(board: &mut Board)
 
 /// The second half: the runner's step with its call or death, and the timer. It takes no memory.
 #[inline(always)]
-pub fn finish_tick(board: &mut Board)
+pub(crate) fn finish_tick(board: &mut Board)
     requires may { MayFinish board.old }
     requires room { HALF_ROWS ≤ board.old.ledger.spare }
     ensures world { world_of board.new ≡ second_half (world_of board.old) }
@@ -44,9 +45,9 @@ pub fn finish_tick(board: &mut Board)
     board.timer();
 }
 
-/// The first half of a tick behind what happens in it: these events, in their order. After Ok the rows that the second
+/// The first half of a tick after what happens in it: these events, in their order. After Ok the rows that the second
 /// half wants are spare; after a refusal some first events have happened.
-pub fn begin_with(board: &mut Board, events: &[Event]) -> Result<(), OutOfMemory>
+pub(crate) fn begin_with(board: &mut Board, events: &[Event]) -> Result<(), OutOfMemory>
     requires may { MayTick board.old }
     ensures world { OnOk result (world_of board.new ≡ first_half (world_with (occurrences events.now) (world_of board.old))) }
     ensures tlb { OnOk result (board.new.tlb ≡ cache_served (world_with (occurrences events.now) (world_of board.old)) board.old.tlb) }

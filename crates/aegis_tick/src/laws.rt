@@ -1,4 +1,5 @@
-//! The laws of a tick's halves.
+//! The laws of a tick's halves, and of events in their order.
+ghost use Rattle.aegis_tick.specs.Agenda.{AgendasAreRight};
 ghost use Rattle.aegis_tick.specs.Halves.{HalvesAreTick, IdleWorldsStay, MiddlesAreAtSteps, MiddlesGoOn};
 
 use run_model::law_moments;
@@ -16,4 +17,10 @@ pub fn law_halves()
 /// Law: an idle world stays as it is.
 pub fn law_idle()
     ensures { IdleWorldsStay }
+{}
+
+/// Law: of events in their order, which are to come from a time on, those of that time are the first, and the others are to
+/// come after it. Before the next of them nothing happens.
+pub fn law_agenda()
+    ensures { AgendasAreRight }
 {}

@@ -1,15 +1,18 @@
-//! Boot, event, tick and run: whole runs of a board, which are those of the model. `event` is what an event does in the
-//! model, `tick` its step of the world, and after `run` the board shows the world of the model after so many ticks.
+//! Whole runs of a board, which are those of the model. `Course` is a run: after `run` its board shows the world of the model
+//! after so many ticks, after `tick` that of one tick more, after `glide` that of some plain ticks more; `begin` and
+//! `finish` make a tick in its halves, for who looks at the board in between. `Agenda` has the events that are to come.
+//! `event` is what an event does in the model, `tick` its step of the world.
 #![tactic(auto)]
 
+mod agenda;
 mod booting;
-mod due;
+mod course;
 mod halves;
 mod laws;
 mod running;
 
+pub use agenda::Agenda;
 pub use booting::boot;
-pub use due::{due_and_later, quiet_ticks};
-pub use halves::{HALF_ROWS, begin_tick, begin_with, finish_tick};
-pub use laws::{law_halves, law_idle};
-pub use running::{TICK_ROWS, end_of_run, event, make_room, run, tick};
+pub use course::{Course, end_of_run};
+pub use laws::{law_agenda, law_halves, law_idle};
+pub use running::{TICK_ROWS, event, happen_all, make_room, tick};

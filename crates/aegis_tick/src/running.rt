@@ -1,4 +1,4 @@
-//! Ticks and whole runs of a board.
+//! The ticks of a board, and what happens in them.
 ghost use Rattle.std.specs.Prelude.{◌≡◌, ◌≤◌, ◌<◌, ◌+◌, ◌-◌, ◌*◌, ◌==◌, drop, min, false, length, true, IfOk, IfSome, IsOk, OnOk, OnErr};
 ghost use Rattle.std.specs.List.{prefix_len, take_while};
 ghost use Rattle.aegis_limits.specs.Limits.{most_ticks};
@@ -17,7 +17,8 @@ ghost use Rattle.run_model.specs.Excess.{IsAccounted};
 ghost use Rattle.run_model.specs.Run.{world_after_ticks, end_of_run};
 ghost use Rattle.tlb_course.specs.Course.{cache_after_ticks, cache_ticked};
 ghost use Rattle.aegis_calls.specs.Entering.{IsEntering};
-ghost use Rattle.aegis_tick.specs.Course.{HappenedInPart, IsCutOff, IsReady, IsSure, next_time_of, occurrences, world_with};
+ghost use Rattle.aegis_tick.specs.Agenda.{next_time_of, occurrences};
+ghost use Rattle.aegis_tick.specs.Course.{HappenedInPart, IsCutOff, IsReady, IsSure, world_with};
 
 use crate::halves::{begin_tick, finish_tick};
 use crate::laws::law_halves;
@@ -79,63 +80,9 @@ pub fn tick(board: &mut Board)
     finish_tick(board);
 }
 
-/// How many of these events are of this time, before the first of another.
-pub(crate) fn count_at(events: &[Event], time: u32) -> usize
-    ensures { result ≡ prefix_len (λ (e : EventValue). e.time == time) events.now }
-{
-    events.iter().take_while(|event| event.time == time).count()
-}
-
-/// The time of the first event behind the first ones, so many, or a time behind every tick, if there is none.
-pub(crate) fn next_time(events: &[Event], first: usize) -> u32
-    requires { first ≤ length events.now }
-    ensures { result ≡ next_time_of (drop first events.now) }
-{
-    match events[first..].first() {
-        Some(event) => event.time,
-        None => u32::MAX,
-    }
-}
-
-/// How many ticks from a time on come before the next event, which is of that time or a later one: at most so many.
+/// These events happen, one after another.
 #[inline(always)]
-pub(crate) fn ticks_before(soon: u32, time: u32, most: u32) -> u32
-    requires { time ≤ soon }
-    ensures { result ≡ min most (soon - time) }
-{
-    most.min(soon - time)
-}
-
-/// Of the events behind the first ones, so many, those of this time, before the first of another.
-fn due(events: &[Event], first: usize, time: u32) -> &[Event]
-    requires { first ≤ length events.now }
-    ensures { result.now ≡ take_while (λ (e : EventValue). e.time == time) (drop first events.now) }
-{
-    let left = &events[first..];
-    &left[..count_at(left, time)]
-}
-
-/// Takes the events of this time off those that are to come: behind the first ones, so many. A tick in which nothing
-/// happens costs one comparison, with the time of the next event.
-fn take_due<'a>(events: &'a [Event], next: &mut usize, soon: &mut u32, time: u32) -> &'a [Event]
-    requires within { next.old ≤ length events.now }
-    requires soon { soon.old ≡ next_time_of (drop next.old events.now) }
-    ensures now { result.now ≡ take_while (λ (e : EventValue). e.time == time) (drop next.old events.now) }
-    ensures next { next.new ≡ next.old + length result.now }
-    ensures soon { soon.new ≡ next_time_of (drop next.new events.now) }
-{
-    if time != *soon {
-        return &[];
-    }
-    let now = due(events, *next, time);
-    *next += now.len();
-    *soon = next_time(events, *next);
-    now
-}
-
-/// These events, one after another.
-#[inline(always)]
-fn happen_all(board: &mut Board, events: &[Event]) -> Result<(), OutOfMemory>
+pub fn happen_all(board: &mut Board, events: &[Event]) -> Result<(), OutOfMemory>
     requires { MayHappen board.old }
     ensures world { OnOk result (world_of board.new ≡ world_with (occurrences events.now) (world_of board.old)) }
     ensures tlb { board.new.tlb ≡ board.old.tlb }
@@ -203,7 +150,11 @@ fn tick_entering(board: &mut Board, entry: Entry) -> Result<(), OutOfMemory>
 
 /// One tick with what happens in it, as `tick_with` makes it, where it may be known by what the runner enters the kernel.
 #[inline(always)]
-fn tick_next(board: &mut Board, events: &[Event], entry: Option<Entry>) -> Result<(), OutOfMemory>
+pub(crate) fn tick_next(
+    board: &mut Board,
+    events: &[Event],
+    entry: Option<Entry>,
+) -> Result<(), OutOfMemory>
     requires may { MayTick board.old }
     requires entering { IfSome entry (IsEntering board.old) }
     ensures world { OnOk result (world_of board.new ≡ tick_step (world_with (occurrences events.now) (world_of board.old))) }
@@ -217,69 +168,4 @@ fn tick_next(board: &mut Board, events: &[Event], entry: Option<Entry>) -> Resul
         Some(entry) if events.is_empty() => tick_entering(board, entry),
         _ => tick_with(board, events),
     }
-}
-
-/// So many ticks with the events of their times, or fewer where the board is idle before.
-fn run_ticks(board: &mut Board, events: &[Event], ticks: u32) -> Result<(), OutOfMemory>
-    requires fresh { IsFresh board.old }
-    requires order { are_in_order 0 events.now ≡ true }
-    requires limit { ticks ≤ most_ticks }
-    ensures world { OnOk result (world_of board.new ≡ world_after_ticks (schedule_of events.now) (world_of board.old) ticks) }
-    ensures tlb { OnOk result (board.new.tlb ≡ cache_after_ticks (schedule_of events.now) (world_of board.old) ticks board.old.tlb) }
-    ensures cut { OnErr result (IsCutOff (schedule_of events.now) (world_of board.old) ticks (world_of board.new)) }
-    ensures cut_tlb { OnErr result (board.new.tlb ≡ cache_after_ticks (schedule_of events.now) (world_of board.old) board.new.time board.old.tlb) }
-    ensures balance { IsAccounted (world_of board.old) → IsAccounted (world_of board.new) }
-    ensures sure { TICK_ROWS * (length events.now + ticks) ≤ board.old.ledger.spare → IsOk result }
-{
-    law_accounts();
-    law_further();
-    let mut next = 0;
-    let mut soon = next_time(events, next);
-    let mut done = 0;
-    let mut entry = None;
-    while done < ticks {
-        if board.idle() {
-            return Ok(());
-        }
-        let now = take_due(events, &mut next, &mut soon, done);
-        tick_next(board, now, entry)?;
-        done += 1;
-        let most = ticks_before(soon, done, ticks - done);
-        let stretch = board.stretch_to_entry(most);
-        done += stretch.made;
-        entry = stretch.entry;
-    }
-    Ok(())
-}
-
-/// How a run that may have had so many ticks ended: at the limit where time reached it, else because the board is idle.
-pub fn end_of_run(board: &Board, ticks: u32) -> RunEnd
-    ensures { result ≡ end_of_run (world_of board.now) ticks }
-{
-    if board.time() == ticks {
-        RunEnd::Limit
-    } else {
-        RunEnd::Idle
-    }
-}
-
-/// Runs a freshly booted board for so many ticks, in which these events happen, each at the beginning of the tick of
-/// its time. An idle board stays as it is, and no event happens on it. The run ends at the limit exactly where the time
-/// reached it, else because the board is idle. After a refusal the board is that of a whole number of ticks, and of
-/// some first events of the next. What environments ran past their slices by the ledger, they forfeited by it or still
-/// owe, as before. Where `TICK_ROWS` rows are spare for each event and each tick it takes no memory and isn't refused.
-pub fn run(board: &mut Board, events: &[Event], ticks: u32) -> Result<RunEnd, OutOfMemory>
-    requires fresh { IsFresh board.old }
-    requires order { are_in_order 0 events.now ≡ true }
-    requires limit { ticks ≤ most_ticks }
-    ensures world { OnOk result (world_of board.new ≡ world_after_ticks (schedule_of events.now) (world_of board.old) ticks) }
-    ensures tlb { OnOk result (board.new.tlb ≡ cache_after_ticks (schedule_of events.now) (world_of board.old) ticks board.old.tlb) }
-    ensures end { IfOk result (λ end. end ≡ end_of_run (world_of board.new) ticks) }
-    ensures cut { OnErr result (IsCutOff (schedule_of events.now) (world_of board.old) ticks (world_of board.new)) }
-    ensures cut_tlb { OnErr result (board.new.tlb ≡ cache_after_ticks (schedule_of events.now) (world_of board.old) board.new.time board.old.tlb) }
-    ensures balance { IsAccounted (world_of board.old) → IsAccounted (world_of board.new) }
-    ensures sure { TICK_ROWS * (length events.now + ticks) ≤ board.old.ledger.spare → IsOk result }
-{
-    run_ticks(board, events, ticks)?;
-    Ok(end_of_run(board, ticks))
 }

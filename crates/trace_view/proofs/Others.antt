@@ -8,14 +8,15 @@ use Rattle.world_model.specs.declared.slot.Runner.{Runner}
 use Rattle.world_model.specs.Book.{Book, is_idle_book, is_runner, running}
 use Rattle.world_model.specs.Event.{Schedule, happen}
 use Rattle.world_model.specs.World.{World, run_phases}
-use Rattle.run_model.specs.Run.{TimeIsTick, happens_in, next_world, world_after_ticks}
+use Rattle.run_model.specs.Boot.{boot_world}
+use Rattle.run_model.specs.Run.{System, TimeIsTick, happens_in, next_world, world_after, world_after_ticks}
 use Rattle.board_model.specs.Shown.{Shown}
 use Rattle.board_model.specs.Showing.{world_of}
 use Rattle.board_model.specs.Stretch.{AreSteady, IsAtStep, IsQuiet}
 use Rattle.aegis_tick.specs.Halves.{first_half, mid}
 use Rattle.tlb_course.specs.Further.{WorldsGoOn}
 use Rattle.trace_view.specs.Others.{AnotherRuns}
-use Rattle.trace_view.specs.Trace.{tick_line, tick_lines}
+use Rattle.trace_view.specs.Trace.{line_in, lines_in, tick_line}
 
 other_runner : (e r : ℕ) (o : Option Runner) → running o ≡ Some r → r ≢ e → is_runner e o ≡ false
 other_runner e r o runs other = search (rules, ne_eqb)
@@ -32,28 +33,29 @@ no_line schedule v u e r nothing step runs other =
     let middle : mid schedule v ≡ v = ap (λ (xs : List Occurrence). first_half (run_phases v (map happen xs))) nothing ∙ step in
     ap (λ (m : World). tick_line e m u) middle ∙ rw (other_runner e r v.book.runner runs other, none_and) refl
 
-module _ (times : TimeIsTick) (further : WorldsGoOn) (schedule : Schedule) (w : World) (start : w.book.time ≡ 0) (b : Shown) (e t k : ℕ)
-    (at : world_of b ≡ world_after_ticks schedule w t) (quiet : IsQuiet schedule t (t + k)) (steady : AreSteady b schedule k)
+module _ (times : TimeIsTick) (further : WorldsGoOn) (system : System) (start : (boot_world system.image).book.time ≡ 0) (b : Shown) (e t k : ℕ)
+    (at : world_of b ≡ world_after system t) (quiet : IsQuiet system.schedule t (t + k)) (steady : 0 < k → AreSteady b system.schedule k)
     (others : 0 < k → AnotherRuns e (world_of b)) where
-  there : (i : ℕ) → world_after_ticks schedule (world_of b) i ≡ world_after_ticks schedule w (t + i)
-  there i = ap (λ (v : World). world_after_ticks schedule v i) at ∙ further schedule w t i
+  there : (i : ℕ) → world_after_ticks system.schedule (world_of b) i ≡ world_after system (t + i)
+  there i = ap (λ (v : World). world_after_ticks system.schedule v i) at ∙ further system.schedule (boot_world system.image) t i
 
-  line_at : (i : ℕ) → i < k → (let v = world_after_ticks schedule w (t + i) in tick_line e (mid schedule v) (next_world schedule v) ≡ [])
+  line_at : (i : ℕ) → i < k → line_in system e (t + i) ≡ []
   line_at i less =
-      let v = world_after_ticks schedule w (t + i) in
-      let another = others (omega arith) in
+      let v = world_after system (t + i) in
+      let some : 0 < k = omega arith in
+      let another = others some in
       let r = another.0 in
-      let stays = steady.stays i (omega arith) in
+      let stays = (steady some).stays i (omega arith) in
       let runs : running v.book.runner ≡ Some r = ap (λ (u : World). running u.book.runner) (sym (there i)) ∙ stays.runner ∙ another.1 in
-      let time = times schedule w (t + i) start (busy r v.book runs) in
-      no_line schedule v (next_world schedule v) e r
-      (ap schedule time ∙ quiet.nothing (t + i) (omega arith) (omega arith))
-      (subst IsAtStep (there i) (steady.at_step i less))
+      let time = times system.schedule (boot_world system.image) (t + i) start (busy r v.book runs) in
+      no_line system.schedule v (next_world system.schedule v) e r
+      (ap system.schedule time ∙ quiet.nothing (t + i) (omega arith) (omega arith))
+      (subst IsAtStep (there i) ((steady some).at_step i less))
       runs another.2
 
-  lines_until : (i : ℕ) → i ≤ k → tick_lines schedule w e (t + i) ≡ tick_lines schedule w e t
+  lines_until : (i : ℕ) → i ≤ k → lines_in system e (t + i) ≡ lines_in system e t
   lines_until zero within = rw add-zero refl
   lines_until (suc i) within = rw (add-suc, line_at i (omega arith), append-nil) (lines_until i (omega arith))
 
-  pub no_lines : tick_lines schedule w e (t + k) ≡ tick_lines schedule w e t
+  pub no_lines : lines_in system e (t + k) ≡ lines_in system e t
   no_lines = lines_until k (omega arith)

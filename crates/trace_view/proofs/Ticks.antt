@@ -1,14 +1,21 @@
 -- Ticks, one after another.
-use Rattle.std.proofs.Common.{◌≡◌, ℕ, ◌+◌, ◌++◌, refl, add-one}
-use Rattle.world_model.specs.Event.{Schedule}
+use Rattle.std.proofs.Common.{◌≡◌, ℕ, ◌+◌, ◌++◌, List, refl, ◌∙◌, ap, add-one}
 use Rattle.world_model.specs.World.{World}
-use Rattle.run_model.specs.Run.{next_world, world_after_ticks}
+use Rattle.run_model.specs.Run.{System, next_world, world_after}
 use Rattle.aegis_tick.specs.Halves.{mid}
-use Rattle.trace_view.specs.Trace.{tick_line, tick_lines}
+use Rattle.trace_view.specs.Trace.{line_in, lines_in, tick_line}
 
-pub lines_more : (schedule : Schedule) (w : World) (e t : ℕ)
-    → tick_lines schedule w e (t + 1) ≡ tick_lines schedule w e t ++ (let now = world_after_ticks schedule w t in tick_line e (mid schedule now) (next_world schedule now))
-lines_more schedule w e t = rw add-one refl
+pub lines_more : (system : System) (e t : ℕ) → lines_in system e (t + 1) ≡ lines_in system e t ++ line_in system e t
+lines_more system e t = rw add-one refl
 
-pub one_more : (schedule : Schedule) (w : World) (t : ℕ) → world_after_ticks schedule w (t + 1) ≡ next_world schedule (world_after_ticks schedule w t)
-one_more schedule w t = rw add-one refl
+one_more : (system : System) (t : ℕ) → world_after system (t + 1) ≡ next_world system.schedule (world_after system t)
+one_more system t = rw add-one refl
+
+pub line_is : (system : System) (e t : ℕ) (m v : World) → m ≡ mid system.schedule (world_after system t) → v ≡ world_after system (t + 1)
+    → tick_line e m v ≡ line_in system e t
+line_is system e t m v middle after = λ i. tick_line e (middle i) ((after ∙ one_more system t) i)
+
+-- parts that are written one after another
+pub joined : (a b c d o p q r : List ℕ) → o ≡ a → p ≡ o ++ b → q ≡ p ++ c → r ≡ q ++ d → r ≡ a ++ b ++ c ++ d
+joined a b c d o p q r first second third fourth =
+    fourth ∙ ap (λ (xs : List ℕ). xs ++ d) (third ∙ ap (λ (xs : List ℕ). xs ++ c) (second ∙ ap (λ (xs : List ℕ). xs ++ b) first))

@@ -10,12 +10,11 @@ use Rattle.mips_exec.specs.Cpu.{reg}
 use Rattle.mips_exec.specs.Step.{fetched}
 use Rattle.mips_list.specs.WordText.{word_text}
 use Rattle.world_model.specs.Book.{is_runner}
-use Rattle.world_model.specs.Event.{Schedule, schedule_of}
+use Rattle.world_model.specs.Event.{schedule_of}
 use Rattle.world_model.specs.Page.{answers_by}
 use Rattle.world_model.specs.Solo.{Solo, is_dead, sight}
 use Rattle.world_model.specs.World.{World}
-use Rattle.run_model.specs.Boot.{boot_world}
-use Rattle.run_model.specs.Run.{end_of_run, next_world, world_after_ticks}
+use Rattle.run_model.specs.Run.{System, end_of_run, next_world, world_after}
 use Rattle.run_report.specs.Report.{end_line, for_each}
 use Rattle.aegis_tick.specs.Halves.{mid}
 
@@ -69,17 +68,19 @@ makes_step e w = nat_lt e w.count && is_runner e w.book.runner
 abbrev pub tick_line : ℕ → World → World → List ℕ
 tick_line e w v = if makes_step e w then step_line e w v else []
 
--- the lines of so many ticks of a world
-abbrev pub tick_lines : Schedule → World → ℕ → ℕ → List ℕ
-tick_lines schedule w e ticks =
-    for_each (λ t. let now = world_after_ticks schedule w t in tick_line e (mid schedule now) (next_world schedule now))
-    ticks
+-- the line of a tick of a run, if the environment makes its step in it
+abbrev pub line_in : System → ℕ → ℕ → List ℕ
+line_in system e t = let now = world_after system t in tick_line e (mid system.schedule now) (next_world system.schedule now)
+
+-- the lines of so many ticks of a run
+abbrev pub lines_in : System → ℕ → ℕ → List ℕ
+lines_in system e ticks = for_each (line_in system e) ticks
 
 -- the trace of an environment in a run of so many ticks: a line for each tick below its end
 unfoldable pub trace_text : ImageValue → List EventValue → ℕ → ℕ → List ℕ
 trace_text image events limit e =
-    let schedule = schedule_of events in
-    let w = world_after_ticks schedule (boot_world image) limit in
+    let system : System = record { image = image; schedule = schedule_of events } in
+    let w = world_after system limit in
     line (codes "aegis" ∷ codes "trace" ∷ dec_text e ∷ [])
-    ++ tick_lines schedule (boot_world image) e w.book.time
+    ++ lines_in system e w.book.time
     ++ end_line w (end_of_run w limit) ++ line (codes "done" ∷ [])

@@ -1,24 +1,23 @@
 //! The line of a step.
-ghost use Rattle.std.specs.Prelude.{◌≡◌, ◌++◌, ◌∷◌, ◌<◌, ◌≤◌, OnOk, Some};
+ghost use Rattle.std.specs.Prelude.{◌≡◌, ◌++◌, ◌∷◌, ◌<◌, ◌+◌, ◌≤◌, OnOk, Some};
 ghost use Rattle.std.specs.List.{flat_map};
 ghost use Rattle.line_text.specs.Text.{dec_text, hex_text};
 ghost use Rattle.line_text.specs.WrittenLine.{spaced};
 ghost use Rattle.world_model.specs.Book.{running};
 ghost use Rattle.board_model.specs.Showing.{world_of};
-ghost use Rattle.board_model.specs.Ticks.{IsTicked};
-ghost use Rattle.aegis_tick.specs.Halves.{MayFinish, second_half};
+ghost use Rattle.aegis_tick.specs.OnCourse.{IsMidway, IsOn, system_of};
 ghost use Rattle.trace_view.specs.Trace.{difference, differences, outcome_words, register_difference, register_differences, step_line, word_words};
 
 use crate::fetch::next_word;
 use aegis_calls::Board;
 use aegis_limits::OutOfMemory;
-use aegis_tick::{HALF_ROWS, finish_tick};
+use aegis_tick::Course;
 use line_text::{Word, end_line, push_spaced, push_word};
 use mips_exec::Cpu;
 use mips_list::push_word_text;
 use world_model::{Life, WorldView};
 
-/// The registers behind register 0.
+/// The registers after register 0.
 const SHOWN_REGISTERS: u8 = 31;
 
 /// Appends the word that stands at an address, and its instruction; or that its fetch is refused.
@@ -117,18 +116,23 @@ fn push_outcome(out: &mut Vec<u8>, before: &Cpu, board: &Board, env: u8) -> Resu
 
 /// Makes the second half of a tick, and appends the line of the runner's step.
 #[tactic(auto, unfolding(crate::specs::Trace::step_line))]
-pub(crate) fn push_step(out: &mut Vec<u8>, board: &mut Board, env: u8) -> Result<(), OutOfMemory>
-    requires may { MayFinish board.old }
-    requires room { HALF_ROWS ≤ board.old.ledger.spare }
-    requires there { env < (world_of board.old).count }
-    requires runs { running (world_of board.old).book.runner ≡ Some env }
-    ensures text { OnOk result (out.new.items ≡ out.old.items ++ step_line env (world_of board.old) (world_of board.new)) }
-    ensures world { OnOk result (world_of board.new ≡ second_half (world_of board.old)) }
-    ensures ticked { OnOk result (IsTicked board.old board.new) }
+pub(crate) fn push_step(
+    out: &mut Vec<u8>,
+    course: &mut Course<'_, '_, '_>,
+    env: u8,
+) -> Result<(), OutOfMemory>
+    requires midway { IsMidway course.old }
+    requires there { env < (world_of course.old.board).count }
+    requires runs { running (world_of course.old.board).book.runner ≡ Some env }
+    ensures text { OnOk result (out.new.items ≡ out.old.items ++ step_line env (world_of course.old.board) (world_of course.new.board)) }
+    ensures on { OnOk result (IsOn course.new) }
+    ensures time { OnOk result (course.new.board.time ≡ course.old.board.time + 1) }
+    ensures system { OnOk result (system_of course.new ≡ system_of course.old) }
 {
-    let before = board.cpu(env);
-    push_head(out, board.time(), before.pc, next_word(board, env))?;
-    finish_tick(board);
-    push_outcome(out, &before, board, env)?;
+    let before = course.board.cpu(env);
+    let word = next_word(&course.board, env);
+    push_head(out, course.board.time(), before.pc, word)?;
+    course.finish();
+    push_outcome(out, &before, &course.board, env)?;
     end_line(out)
 }

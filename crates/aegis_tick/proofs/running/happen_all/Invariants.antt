@@ -2,7 +2,8 @@
 use Rattle.std.proofs.Common.{◌≡◌, ◌≤◌, ◌+◌, ◌*◌, length, take}
 use Rattle.board_model.specs.Showing.{world_of}
 use Rattle.aegis_calls.specs.Rows.{tick_rows}
-use Rattle.aegis_tick.specs.Course.{occurrences, world_with}
+use Rattle.aegis_tick.specs.Agenda.{occurrences}
+use Rattle.aegis_tick.specs.Course.{world_with}
 use Rattle.aegis_tick.proofs.running.happen_all.Given as goal
 
 abbrev pub invariant-loop-one : goal.invariant-loop-one

@@ -6,7 +6,8 @@ use Rattle.board_model.specs.Shown.{Shown}
 use Rattle.board_model.specs.Showing.{world_of}
 use Rattle.world_model.specs.Book.{is_idle_book}
 use Rattle.world_model.specs.World.{World}
-use Rattle.aegis_tick.specs.Course.{occurrences, world_with}
+use Rattle.aegis_tick.specs.Agenda.{occurrences}
+use Rattle.aegis_tick.specs.Course.{world_with}
 use Rattle.aegis_tick.proofs.Happening.{still_busy}
 use Rattle.aegis_tick.proofs.Refusals.{on_err}
 use Rattle.aegis_tick.proofs.running.happen_first.Goals as goal
