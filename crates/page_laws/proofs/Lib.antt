@@ -2,3 +2,4 @@ pub mod Tables
 pub mod Stripes
 pub mod Sights
 pub mod Mourning
+pub mod Stores

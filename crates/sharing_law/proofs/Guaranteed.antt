@@ -33,7 +33,7 @@ use Rattle.sharing_law.proofs.Counting.{packet_counts}
 use Rattle.sharing_law.proofs.Given.{IsTold, Led, absorb_or, absorbed_leaves, kept_else, kept_here, told_leaves}
 use Rattle.sharing_law.proofs.Giving.{happen_led, settling_led, step_led, taking_led, timer_led, turn_led}
 use Rattle.sharing_law.proofs.Moments.{after_tick}
-use Rattle.sharing_law.proofs.Writing.{stored_writable}
+use Rattle.page_laws.proofs.Stores.{stored_writable}
 
 -- words in the context page
 abbrev StaysOrHas : Solo → Solo → ℕ → ℕ → List ℕ → Type 0

@@ -36,7 +36,7 @@ use Rattle.sharing_law.specs.Whole.{GuaranteedAreWhole}
 use Rattle.sharing_law.proofs.Given.{absorbed_leaves}
 use Rattle.sharing_law.proofs.Later.{IsLater, each_solo}
 use Rattle.sharing_law.proofs.Sizes.{with_length, zero_length}
-use Rattle.sharing_law.proofs.Writing.{stored_within}
+use Rattle.page_laws.proofs.Stores.{stored_within}
 
 abbrev AreFull : List KeptPage → Type 0
 AreFull [] = Unit {0}

@@ -27,12 +27,12 @@ use Rattle.sharing_law.proofs.Moments.{turned_lists}
 use Rattle.sharing_law.proofs.Repossessing.{copied_in, copy_in}
 use Rattle.sharing_law.proofs.Agreeing.{Fine, all_fine, moment_fine}
 use Rattle.sharing_law.proofs.Live.{each_is_live}
-use Rattle.sharing_law.proofs.Writing.{stored_through}
+use Rattle.page_laws.proofs.Stores.{stores_go_through}
 
 -- a store in a world whose book lists nothing but what it did before the tick
 pub store_lives : GrantedMay → AgainAsks → TakingsAreTakable → (system : System) (t : ℕ) (m : World) → Fine m → ListsLess (world_after system t).book m.book → (e : ℕ) (x : Store) (page : ℕ) → Acts m e (Stores x) → x.key ≡ Physical page → HasLiveBinding system t e page
 store_lives granted again takable system t m fine less e x page acts into =
-    let it = stored_through (m.solos e) x page into acts.comes in
+    let it = stores_go_through (m.solos e) x page acts.comes into in
     let left = less.each e it.row it.binding (sym ((fine.sound.agreed e).binds it.row) ∙ it.found) in
     record { binding = it.binding; live = each_is_live granted again takable system t e it.row it.binding left.listed; its = it.its; writable = it.writable }
 

@@ -28,7 +28,6 @@ mod Later
 mod Absent
 mod SameVersion
 mod Live
-mod Writing
 mod Leaving
 mod Guaranteed
 mod Allocated

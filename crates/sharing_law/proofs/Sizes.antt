@@ -31,7 +31,7 @@ use Rattle.sharing_law.proofs.Allocated.{becomes}
 use Rattle.sharing_law.proofs.Delivering.{owner_sees}
 use Rattle.sharing_law.proofs.Handling.{filled_whole}
 use Rattle.sharing_law.proofs.Moments.{each_moment}
-use Rattle.sharing_law.proofs.Writing.{stored_within}
+use Rattle.page_laws.proofs.Stores.{stored_within}
 
 -- bytes within a page leave its length
 pub with_length : (page : List ℕ) (offset : ℕ) (bytes : List ℕ) → offset + length bytes ≤ length page → length (with_bytes page offset bytes) ≡ length page

@@ -31,7 +31,7 @@ use Rattle.mips_exec.specs.Cpu.{reg}
 use Rattle.world_model.specs.Page.{KeptPage, Mapped, answers_by, if_served, raised, reach, served}
 use Rattle.world_model.specs.Solo.{Solo, Store, Kept, Physical, Place, bound_place, kept_at, leads, mapped, place_at, sight, store_through}
 use Rattle.world_model.specs.Step.{Stores, Raises, Dies, act_at_call, act_of, step_alone, store_act}
-use Rattle.sharing_law.proofs.Choices.{either}
+use Rattle.page_laws.specs.Through.{IsThrough, StoresGoThrough}
 
 -- an instruction that retires writes what its access does
 ended_write : (cpu new : Cpu) (change : Change) (write o : Option Write) → ended cpu change write ≡ Retired new o → write ≡ o
@@ -102,14 +102,6 @@ module _ (look : ℕ → Option Mapped) (address : ℕ) where
   granted_writable : (m : Mapped) → look (address / page_size) ≡ Some m → answer_to (reach look purpose.Store address) ≡ Ok tt → m.writable ≡ true
   granted_writable m is granted = grind (arith, common_steps, by_place)
 
--- a page is stored to through a binding that may be stored through
-pub record IsThrough (s : Solo) (page : ℕ) : Type 0 where
-  pub row : ℕ
-  pub binding : Binding
-  pub found : s.binds row ≡ Some binding
-  pub its : binding.page ≡ page
-  pub writable : binding.writable ≡ true
-
 -- a store goes to where a VPN leads, which may be stored to, and into one page
 record IsLed (s : Solo) (x : Store) : Type 0 where
   vpn : ℕ
@@ -142,11 +134,15 @@ module _ (s : Solo) (x : Store) where
   by_call true acts = cc
   by_call false acts = cc
 
+  by_trap : (exc : Exc) (unhandled : Bool) → (if unhandled then Dies (cause.Trapped exc.code) else Raises exc) ≡ Stores x → IsLed s x
+  by_trap exc true acts = cc
+  by_trap exc false acts = cc
+
   by_step : (st : Step) → step_alone s ≡ st → act_of s st ≡ Stores x → IsLed s x
   by_step (Retired new None) is acts = cc
   by_step (Retired new (Some w)) is acts = by_led new w is (leads s (w.address / page_size)) refl acts
   by_step Called is acts = by_call (reg s.cpu 2 == exit_number) acts
-  by_step (Trapped exc) is acts = either (λ act. act ≡ Stores x → IsLed s x) (s.handlers.exception == 0) (Dies (cause.Trapped exc.code)) (Raises exc) (λ never. cc) (λ never. cc) acts
+  by_step (Trapped exc) is acts = by_trap exc (s.handlers.exception == 0) acts
 
   led_store : act_of s (step_alone s) ≡ Stores x → IsLed s x
   led_store acts = by_step (step_alone s) refl acts
@@ -160,8 +156,11 @@ module _ (s : Solo) (x : Store) (page : ℕ) (into : x.key ≡ Physical page) wh
       → place.key ≡ Physical page → place.writable ≡ true → IsThrough s page
   by_binding vpn p b place found led key writable = grind (arith, common_steps, found_in_row)
 
-  pub stored_through : act_of s (step_alone s) ≡ Stores x → IsThrough s page
-  stored_through acts = let it = led_store s x acts in by_binding it.vpn (kept_at s.kept it.vpn) (binding_at s.version s.binds it.vpn) it.place refl it.led (it.key ∙ into) it.writable
+  bound_through : IsLed s x → IsThrough s page
+  bound_through it = by_binding it.vpn (kept_at s.kept it.vpn) (binding_at s.version s.binds it.vpn) it.place refl it.led (it.key ∙ into) it.writable
+
+pub stores_go_through : StoresGoThrough
+stores_go_through s x page acts into = bound_through s x page into (led_store s x acts)
 
 -- the guaranteed page at this number is there, and may be stored to
 pub record IsWritable (s : Solo) (vpn : ℕ) : Type 0 where
