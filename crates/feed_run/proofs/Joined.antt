@@ -10,7 +10,7 @@ use Rattle.world_model.specs.Item.{Item}
 use Rattle.world_model.specs.Tick.{serve_phases, step, tick_phases, timer, turn}
 use Rattle.world_model.specs.World.{World, Reply, after, in_turn, run_phases}
 use Rattle.run_model.proofs.Phases.{run_append}
-use Rattle.aegis_tick.specs.Course.{occurrences}
+use Rattle.aegis_tick.specs.Agenda.{occurrences}
 use Rattle.feed_telling.specs.Tell.{AreTold}
 use Rattle.feed_telling.proofs.Telling.{told_as, told_both}
 use Rattle.feed_run.specs.Phases.{PhaseTold, PhasesTold}

@@ -3,6 +3,5 @@ mod Takable
 mod Unread
 mod Ticked
 mod Passing
-mod OwnTick
-mod OthersTick
+mod PlainTick
 mod Plain

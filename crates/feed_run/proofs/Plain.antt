@@ -1,35 +1,29 @@
 -- The run behind plain ticks: those of its environment are told as steps, of those of another nothing is told.
-use Rattle.std.proofs.Common.{◌≡◌, ◌≤◌, ◌<◌, ◌+◌, ◌-◌, ℕ, zero, suc, List, [], ◌∷◌, ◌++◌, length, map, replicate, Bool, true, false, Option, Some, None, refl, sym, ◌∙◌, ap, subst, arith, rules, add-zero, add-suc}
+use Rattle.std.proofs.Common.{◌≡◌, ◌≤◌, ◌<◌, ◌+◌, ◌-◌, ℕ, zero, suc, List, [], ◌∷◌, ◌++◌, map, replicate, Bool, true, false, Option, Some, None, refl, sym, ◌∙◌, ap, subst, arith, rules, add-zero, add-suc}
 use Rattle.std.specs.List.{list_any}
 use Rattle.std.specs.Prelude.{◌||◌, ◌&&◌, not, if◌then◌else◌}
 use Rattle.std.proofs.lemmas.Bool.{eq-eqb, ne_eqb}
-use Rattle.std.proofs.lemmas.List.{append-nil, append_assoc, length-append, length-map}
-use Rattle.aegis_limits.specs.Limits.{most_ticks}
-use Rattle.boot_image.specs.ImageValue.{ImageValue}
-use Rattle.external_event.specs.EventValue.{EventValue}
-use Rattle.external_event.specs.Order.{are_in_order}
+use Rattle.std.proofs.lemmas.List.{append-nil, append_assoc, replicate-append-replicate}
 use Rattle.world_model.specs.declared.slot.Runner.{Runner}
-use Rattle.world_model.specs.Book.{Book, is_idle_book, is_runner, running}
-use Rattle.world_model.specs.Event.{schedule_of}
+use Rattle.world_model.specs.Book.{is_runner, running}
 use Rattle.world_model.specs.Item.{Item, Step}
 use Rattle.world_model.specs.World.{World}
 use Rattle.run_model.specs.Boot.{boot_world}
-use Rattle.run_model.specs.Live.{StoresAreLive}
 use Rattle.run_model.specs.Run.{System, TimeIsTick, feed, items_in, world_after, world_after_ticks}
 use Rattle.run_model.specs.Slices.{begins_in, begins_slice, ends_in, runs_after, slices}
 use Rattle.feed_log.specs.Views.{ItemSeen, item_seen}
-use Rattle.feed_telling.specs.Tell.{AreFit}
-use Rattle.board_model.specs.Shown.{Shown}
+use Rattle.feed_telling.specs.Tell.{AreFit, AreTold}
 use Rattle.board_model.specs.Showing.{world_of}
 use Rattle.board_model.specs.Stretch.{AreSteady, IsAtStep, IsOwnTick, IsQuiet}
+use Rattle.page_laws.specs.Through.{StoresGoThrough}
 use Rattle.tlb_course.specs.Further.{WorldsGoOn}
-use Rattle.aegis_calls.specs.QuietTicks.{AreQuietTicks, AreSteadyTicks}
-use Rattle.feed_log.specs.Progress.{Progress}
-use Rattle.feed_run.specs.Whole.{AreUnread, IsBetween, WentPlain}
+use Rattle.aegis_tick.specs.declared.course.Course.{Course}
+use Rattle.aegis_tick.specs.OnCourse.{IsOn, system_of}
+use Rattle.feed_run.specs.declared.run.BoardRun.{BoardRun}
 use Rattle.feed_run.specs.Reach.{IsOutOfReach}
-use Rattle.feed_run.proofs.OthersTick.{others_tick, still_out_of_reach}
-use Rattle.feed_run.proofs.OwnTick.{own_tick, same_binds, same_pages}
-use Rattle.feed_run.proofs.Unread.{unread_more}
+use Rattle.feed_run.specs.Whole.{IsWholeRun, WentPlain, progress_of}
+use Rattle.feed_run.proofs.PlainTick.{IsApart, IsPlain, apart_of_book, busy, others_tick, own_tick, still_apart}
+use Rattle.feed_run.proofs.Unread.{read_on, unread_on}
 
 -- who runs
 as_runs : (o : Option Runner) (e : ℕ) → running o ≡ Some e → is_runner e o ≡ true
@@ -41,77 +35,85 @@ runs_not None r e is other = cc
 runs_not (Some x) r e is other = let same : x.env ≡ r = cc in ne_eqb x.env e (λ its. other (sym its ∙ same))
 
 -- so many steps
-steps_fit : (k : ℕ) → AreFit (replicate k Step)
-steps_fit zero = tt
-steps_fit (suc k) = (tt, steps_fit k)
+steps_told : (k : ℕ) (log : List ItemSeen) → AreTold log (log ++ replicate k (item_seen Step)) (replicate k Step)
+steps_told k log = record { log = ap (λ (xs : List ItemSeen). log ++ xs) (seen k); fit = fit k }
+  where
+    seen : (n : ℕ) → replicate n (item_seen Step) ≡ map item_seen (replicate n Step)
+    seen zero = refl
+    seen (suc n) = ap (λ (xs : List ItemSeen). item_seen Step ∷ xs) (seen n)
 
-steps_seen : (k : ℕ) → map item_seen (replicate k Step) ≡ replicate k (item_seen Step)
-steps_seen zero = refl
-steps_seen (suc k) = ap (λ (xs : List ItemSeen). item_seen Step ∷ xs) (steps_seen k)
-
-one_step_more : (k : ℕ) (xs : List Item) → replicate k Step ++ Step ∷ xs ≡ Step ∷ (replicate k Step ++ xs)
-one_step_more zero xs = refl
-one_step_more (suc k) xs = ap (λ (ys : List Item). Step ∷ ys) (one_step_more k xs)
+    fit : (n : ℕ) → AreFit (replicate n Step)
+    fit zero = tt
+    fit (suc n) = (tt, fit n)
 
 steps_more : (k : ℕ) → replicate k Step ++ Step ∷ [] ≡ replicate (suc k) Step
-steps_more k = one_step_more k [] ∙ ap (λ (xs : List Item). Step ∷ xs) (append-nil (replicate k Step))
+steps_more k =
+    let one : k + 1 ≡ suc k = omega arith in
+    replicate-append-replicate k 1 Step ∙ ap (λ (n : ℕ). replicate n Step) one
 
 none_and : (a b : Bool) → b ≡ false → a && b ≡ false
 none_and a b none = search rules
 
-busy : (e : ℕ) (b : Book) → running b.runner ≡ Some e → is_idle_book b ≡ false
-busy e b runs = search rules
+-- So many ticks behind a run between its ticks are plain.
+pub record ArePlainTicks (p : BoardRun) (d : Course) (k r : ℕ) : Type 0 where
+  pub runs : running (world_of p.course.board).book.runner ≡ Some r
+  pub on : IsOn d
+  pub time : d.board.time ≡ p.course.board.time + k
+  pub system : system_of d ≡ system_of p.course
+  pub quiet : IsQuiet (system_of p.course).schedule p.course.board.time (p.course.board.time + k)
+  pub steady : AreSteady p.course.board (system_of p.course).schedule k
 
-module _ (times : TimeIsTick) (further : WorldsGoOn) (image : ImageValue) (e : ℕ) (events left : List EventValue) (b c : Shown) (log tick : List ItemSeen) (count k n r : ℕ)
-    (now : IsBetween (record { image = image; schedule = schedule_of events }) e events left b log tick count)
-    (runs : running (world_of b).book.runner ≡ Some r)
-    (quiet : IsQuiet (schedule_of left) b.time (b.time + n)) (few : k ≤ n) (within : b.time + n ≤ most_ticks)
-    (steady : AreSteadyTicks b k) (time : c.time ≡ b.time + k) where
-  abbrev pub system : System
-  system = record { image = image; schedule = schedule_of events }
+-- the run behind them, with these items unread
+abbrev pub behind : BoardRun → Course → List ItemSeen → BoardRun
+behind p d log = record p { course = d; log = log }
 
-  abbrev pub t : ℕ
-  t = b.time
+-- it is whole, and no slice ended in the ticks
+pub record HasGone (p q : BoardRun) : Type 0 where
+  pub whole : IsWholeRun q
+  pub went : WentPlain (progress_of p) (progress_of q)
 
-  abbrev pub at : ℕ → World
-  at i = world_after_ticks system.schedule (world_of b) i
+module _ (times : TimeIsTick) (further : WorldsGoOn) (p : BoardRun) (d : Course) (k r : ℕ) (now : IsWholeRun p) (ticks : ArePlainTicks p d k r) where
+  abbrev system : System
+  system = system_of p.course
 
-  there : (i : ℕ) → at i ≡ world_after system (t + i)
-  there i = ap (λ (v : World). world_after_ticks system.schedule v i) now.board.world ∙ further system.schedule (boot_world image) t i
+  abbrev t : ℕ
+  t = p.course.board.time
 
-  quiet_on : IsQuiet system.schedule t (t + k)
-  quiet_on = record { nothing = λ s from until. now.coming.same s from ∙ quiet.nothing s from (omega (arith, until, few)) }
+  abbrev e : ℕ
+  e = p.watched
 
-  steady_on : AreSteady b system.schedule k
-  steady_on = steady system.schedule quiet_on
+  abbrev w : ℕ → World
+  w i = world_after system (t + i)
 
-  runs_at : (i : ℕ) → i ≤ k → running (world_after system (t + i)).book.runner ≡ Some r
-  runs_at i less = ap (λ (v : World). running v.book.runner) (sym (there i)) ∙ (steady_on.stays i less).runner ∙ runs
+  there : (i : ℕ) → world_after_ticks system.schedule (world_of p.course.board) i ≡ w i
+  there i =
+      ap (λ (v : World). world_after_ticks system.schedule v i) now.on.board.world ∙ further system.schedule (boot_world system.image) t i
 
-  quiet_at : (i : ℕ) → i < k → system.schedule (world_after system (t + i)).book.time ≡ []
-  quiet_at i less =
-      let v = world_after system (t + i) in
-      let now_is = times system.schedule (boot_world image) (t + i) now.board.start (busy r v.book (runs_at i (omega (arith, less)))) in
-      ap system.schedule now_is ∙ quiet_on.nothing (t + i) (omega arith) (omega (arith, less))
+  runs_at : (i : ℕ) → i ≤ k → running (w i).book.runner ≡ Some r
+  runs_at i less = ap (λ (v : World). running v.book.runner) (sym (there i)) ∙ (ticks.steady.stays i less).runner ∙ ticks.runs
 
-  at_step_at : (i : ℕ) → i < k → IsAtStep (world_after system (t + i))
-  at_step_at i less = subst IsAtStep (there i) (steady_on.at_step i less)
-
-  own_at : (i : ℕ) → i < k → IsOwnTick (world_after system (t + i))
-  own_at i less = subst IsOwnTick (there i) (steady_on.own i less)
-
-  -- the run went on so, and stands between its ticks so, with these items unread
-  abbrev pub Went : List ItemSeen → Type 0
-  Went new = (p q : Progress) → p ≡ record { system = system; env = e; ticks = t; read = length (feed system e t) - length log }
-      → q ≡ record { system = system; env = e; ticks = c.time; read = length (feed system e c.time) - length new } → WentPlain p q
-
-  abbrev pub Between : List ItemSeen → Type 0
-  Between new = AreQuietTicks b c k → are_in_order (b.time + k) left ≡ true → c.roster.spare ≡ b.roster.spare → c.claims.next ≡ b.claims.next
-      → IsBetween system e events left c new tick count
+  plain_at : (i : ℕ) → i < k → IsPlain system.schedule (w i) r
+  plain_at i less =
+      let runs = runs_at i (omega (arith, less)) in
+      record {
+        quiet = ap system.schedule (times system.schedule (boot_world system.image) (t + i) now.on.board.start (busy (w i).book r runs))
+            ∙ ticks.quiet.nothing (t + i) (omega arith) (omega (arith, less));
+        runs = runs;
+        at = subst IsAtStep (there i) (ticks.steady.at_step i less);
+        own = subst IsOwnTick (there i) (ticks.steady.own i less);
+      }
 
   -- what the environment is given in them, if no slice of it ends
-  module _ (given : List Item) (fit : AreFit given) (feed_on : feed system e (t + k) ≡ feed system e t ++ given)
+  module _ (given : ℕ → List Item) (first : given 0 ≡ []) (more : (i : ℕ) → i < k → given i ++ items_in system (t + i) e ≡ given (suc i))
       (still : (i : ℕ) → i < k → ends_in system e (t + i) ≡ false) where
+    feed_at : (i : ℕ) → i ≤ k → feed system e (t + i) ≡ feed system e t ++ given i
+    feed_at zero less = rw add-zero (sym (append-nil (feed system e t)) ∙ ap (λ (xs : List Item). feed system e t ++ xs) (sym first))
+    feed_at (suc i) less =
+        rw add-suc
+        (ap (λ (xs : List Item). xs ++ items_in system (t + i) e) (feed_at i (omega (arith, less)))
+        ∙ append_assoc (feed system e t) (given i) (items_in system (t + i) e)
+        ∙ ap (λ (xs : List Item). feed system e t ++ xs) (more i (omega (arith, less))))
+
     slices_at : (i : ℕ) → i ≤ k → slices system e (t + i) ≡ slices system e t
     slices_at zero less = rw add-zero refl
     slices_at (suc i) less =
@@ -120,119 +122,65 @@ module _ (times : TimeIsTick) (further : WorldsGoOn) (image : ImageValue) (e : �
         ∙ add-zero (slices system e (t + i))
         ∙ slices_at i (omega (arith, less)))
 
-    feed_to : feed system e c.time ≡ feed system e t ++ given
-    feed_to = ap (feed system e) time ∙ feed_on
+    feed_to : feed (system_of d) e d.board.time ≡ feed system e t ++ given k
+    feed_to = (λ i. feed (ticks.system i) e (ticks.time i)) ∙ feed_at k (omega arith)
 
-    module _ (new : List ItemSeen) (told : new ≡ log ++ map item_seen given) where
-      read_on : length (feed system e c.time) - length new ≡ length (feed system e t) - length log
-      read_on =
-          let all : length (feed system e c.time) ≡ length (feed system e t) + length given = ap length feed_to ∙ length-append (feed system e t) given in
-          let more : length new ≡ length log + length given =
-          ap length told ∙ length-append log (map item_seen given) ∙ ap (λ m. length log + m) (length-map given item_seen) in
-          omega (arith, all, more)
-
-      plain_went : Went new
-      plain_went p q p_is q_is =
-          let here : Progress = record { system = system; env = e; ticks = t; read = length (feed system e t) - length log } in
-          let behind : Progress = record { system = system; env = e; ticks = c.time; read = length (feed system e c.time) - length new } in
-          let went : WentPlain here behind = record {
-            same = λ i. record here { ticks = c.time; read = read_on i };
+    gone_with : (new : List ItemSeen) → AreTold p.log new (given k) → HasGone p (behind p d new)
+    gone_with new told =
+        let time = ticks.time in
+        let read = read_on (feed system e t) (given k) (feed (system_of d) e d.board.time) p.log new feed_to told in
+        record {
+          whole = record {
+            on = ticks.on;
+            unread = unread_on (feed system e t) (given k) (feed (system_of d) e d.board.time) p.log new feed_to told now.unread;
+            empty = now.empty;
+            slices = now.slices ∙ sym (slices_at k (omega arith)) ∙ (λ i. slices (sym ticks.system i) e (sym time i));
+          };
+          went = record {
+            same = λ i. record (progress_of p) { system = ticks.system i; ticks = d.board.time; read = read i };
             later = omega (arith, time);
-            within = omega (arith, time, few, within);
+            within = ticks.on.board.within;
             unended = λ s from until.
                 let i = s - t in
                 let is : t + i ≡ s = omega (arith, from) in
                 ap (slices system e) (sym is) ∙ slices_at i (omega (arith, from, until, time));
-          } in
-          subst (λ (x : Progress). WentPlain x q) (sym p_is) (subst (WentPlain here) (sym q_is) went)
+          };
+        }
 
-      plain_between : Between new
-      plain_between world order whole numbers = record {
-        board = record {
-          world = world system.schedule quiet_on ∙ there k ∙ ap (world_after system) (sym time);
-          within = omega (arith, time, few, within);
-          whole = whole ∙ now.board.whole;
-          numbers = omega (arith, numbers, time, now.board.numbers);
-          start = now.board.start;
-        };
-        coming = record {
-          order = subst (λ (m : ℕ). are_in_order m left ≡ true) (sym time) order;
-          same = λ s from. now.coming.same s (omega (arith, from, time));
-        };
-        unread = subst (λ (xs : List Item). AreUnread xs new) (sym feed_to)
-            (subst (AreUnread (feed system e t ++ given)) (sym told) (unread_more (feed system e t) given log now.unread fit));
-        empty = now.empty;
-        slices = now.slices ∙ sym (slices_at k (omega arith)) ∙ ap (slices system e) (sym time);
-      }
-
-  -- its own ticks give it steps
+  -- its own ticks give it a step each
   module _ (own : r ≡ e) where
-    item_at : (i : ℕ) → i < k → items_in system (t + i) e ≡ Step ∷ []
-    item_at i less =
-        subst (λ (m : ℕ). items_in system (t + i) m ≡ Step ∷ []) own
-        (own_tick system.schedule (world_after system (t + i)) r (quiet_at i less) (runs_at i (omega (arith, less))) (at_step_at i less) (own_at i less))
-
-    steps_at : (i : ℕ) → i ≤ k → feed system e (t + i) ≡ feed system e t ++ replicate i Step
-    steps_at zero less = rw add-zero (sym (append-nil (feed system e t)))
-    steps_at (suc i) less =
-        let so_far = steps_at i (omega (arith, less)) in
-        rw add-suc
-        ((λ j. so_far j ++ item_at i (omega (arith, less)) j)
-        ∙ append_assoc (feed system e t) (replicate i Step) (Step ∷ [])
-        ∙ ap (λ (xs : List Item). feed system e t ++ xs) (steps_more i))
+    steps_at : (i : ℕ) → i < k → replicate i Step ++ items_in system (t + i) e ≡ replicate (suc i) Step
+    steps_at i less =
+        ap (λ (xs : List Item). replicate i Step ++ xs) (subst (λ (n : ℕ). items_in system (t + i) n ≡ Step ∷ []) own (own_tick system.schedule (w i) r (plain_at i less)))
+        ∙ steps_more i
 
     own_still : (i : ℕ) → i < k → ends_in system e (t + i) ≡ false
     own_still i less =
-        let runs_on : running (world_after system (t + suc i)).book.runner ≡ Some e = runs_at (suc i) (omega (arith, less)) ∙ ap Some own in
-        let next : runs_after system e (t + suc i) ≡ true = as_runs (world_after system (t + suc i)).book.runner e runs_on in
-        let behind : runs_after system e (suc (t + i)) ≡ true = ap (runs_after system e) (sym (add-suc t i)) ∙ next in
-        none_and (runs_after system e (t + i) || begins_in system e (t + i)) (not (runs_after system e (suc (t + i)))) (ap not behind)
+        let runs_on : running (w (suc i)).book.runner ≡ Some e = runs_at (suc i) (omega (arith, less)) ∙ ap Some own in
+        let next : runs_after system e (t + suc i) ≡ true = as_runs (w (suc i)).book.runner e runs_on in
+        let behind_it : runs_after system e (suc (t + i)) ≡ true = ap (runs_after system e) (sym (add-suc t i)) ∙ next in
+        none_and (runs_after system e (t + i) || begins_in system e (t + i)) (not (runs_after system e (suc (t + i)))) (ap not behind_it)
 
-    module _ (new : List ItemSeen) (told : new ≡ log ++ replicate k (item_seen Step)) where
-      steps_told : new ≡ log ++ map item_seen (replicate k Step)
-      steps_told = told ∙ ap (λ (xs : List ItemSeen). log ++ xs) (sym (steps_seen k))
-
-      pub own_went : Went new
-      own_went = plain_went (replicate k Step) (steps_fit k) (steps_at k (omega arith)) own_still new steps_told
-
-      pub own_between : Between new
-      own_between = plain_between (replicate k Step) (steps_fit k) (steps_at k (omega arith)) own_still new steps_told
+    pub own_gone : (new : List ItemSeen) → new ≡ p.log ++ replicate k (item_seen Step) → HasGone p (behind p d new)
+    own_gone new is =
+        gone_with (λ i. replicate i Step) refl steps_at own_still new
+        (subst (λ (log : List ItemSeen). AreTold p.log log (replicate k Step)) (sym is) (steps_told k p.log))
 
   -- those of another give it nothing, where the other may store to no page that it sees
-  module _ (live : StoresAreLive) (other : e ≡ r → ⊥) (out : IsOutOfReach (world_of b).book r e) where
-    out_at : (i : ℕ) → i ≤ k → IsOutOfReach (world_after system (t + i)).book r e
-    out_at zero less = subst (λ (v : World). IsOutOfReach v.book r e) (there 0) out
-    out_at (suc i) less =
-        let v = world_after system (t + i) in
-        let here : i < k = omega (arith, less) in
-        let runs_now = runs_at i (omega (arith, less)) in
-        let before : i ≤ k = omega (arith, less) in
-        rw add-suc (still_out_of_reach v.book (world_after system (suc (t + i))).book r e
-        (same_binds system.schedule v r (quiet_at i here) runs_now (at_step_at i here) (own_at i here))
-        (same_pages system.schedule v r (quiet_at i here) runs_now (at_step_at i here) (own_at i here)) (out_at i before))
+  module _ (through : StoresGoThrough) (other : e ≡ r → ⊥) (out : IsOutOfReach (world_of p.course.board).book r e) where
+    apart_at : (i : ℕ) → i ≤ k → IsApart (w i) r e
+    apart_at zero less = subst (λ (v : World). IsApart v r e) (there 0) (apart_of_book p.course.board r e out)
+    apart_at (suc i) less =
+        rw add-suc (still_apart system.schedule (w i) r (plain_at i (omega (arith, less))) e (apart_at i (omega (arith, less))))
 
     none_at : (i : ℕ) → i < k → items_in system (t + i) e ≡ []
-    none_at i less =
-        let before : i ≤ k = omega (arith, less) in
-        others_tick live system (t + i) r e other (quiet_at i less) (runs_at i before) (at_step_at i less) (own_at i less) (out_at i before)
-
-    nothing_more : (i : ℕ) → i ≤ k → feed system e (t + i) ≡ feed system e t ++ []
-    nothing_more zero less = rw add-zero (sym (append-nil (feed system e t)))
-    nothing_more (suc i) less =
-        let so_far = nothing_more i (omega (arith, less)) in
-        rw add-suc
-        (ap (λ (xs : List Item). feed system e (t + i) ++ xs) (none_at i (omega (arith, less)))
-        ∙ append-nil (feed system e (t + i))
-        ∙ so_far)
+    none_at i less = others_tick system.schedule (w i) r (plain_at i less) through e other (apart_at i (omega (arith, less)))
 
     others_still : (i : ℕ) → i < k → ends_in system e (t + i) ≡ false
     others_still i less =
-        let ran : runs_after system e (t + i) ≡ false = runs_not (world_after system (t + i)).book.runner r e (runs_at i (omega (arith, less))) other in
+        let ran : runs_after system e (t + i) ≡ false = runs_not (w i).book.runner r e (runs_at i (omega (arith, less))) other in
         let begins : begins_in system e (t + i) ≡ false = ap (list_any begins_slice) (none_at i less) in
         rw (ran, begins) refl
 
-    pub others_went : Went log
-    others_went = plain_went [] tt (nothing_more k (omega arith)) others_still log (sym (append-nil log))
-
-    pub others_between : Between log
-    others_between = plain_between [] tt (nothing_more k (omega arith)) others_still log (sym (append-nil log))
+    pub others_gone : HasGone p (behind p d p.log)
+    others_gone = gone_with (λ i. []) refl none_at others_still p.log (record { log = sym (append-nil p.log); fit = tt })

@@ -1,5 +1,5 @@
 -- The items of a feed that weren't read.
-use Rattle.std.proofs.Common.{Option, Some, None, ◌≡◌, ◌≤◌, ◌<◌, ◌+◌, ◌-◌, ℕ, zero, suc, List, [], ◌∷◌, ◌++◌, length, map, take, drop, replicate, refl, sym, ◌∙◌, ap, arith}
+use Rattle.std.proofs.Common.{Option, Some, None, ◌≡◌, ◌≤◌, ◌<◌, ◌+◌, ◌-◌, ℕ, zero, suc, List, [], ◌∷◌, ◌++◌, length, map, take, drop, replicate, refl, sym, ◌∙◌, ap, subst, arith}
 use Rattle.std.specs.Prelude.{◌||◌, MatchOption}
 use Rattle.std.specs.List.{list_any}
 use Rattle.std.proofs.Math.ListN.{drop_of_length-le}
@@ -8,32 +8,39 @@ use Rattle.world_model.specs.Item.{Item, Boot, Step, Start, End, Transfer, Kille
 use Rattle.feed_log.specs.Views.{AlikeWhereShownAlike, IsFit, ItemSeen, item_seen}
 use Rattle.feed_log.specs.Log.{StandsFirst, begins_seen, shown}
 use Rattle.feed_log.specs.declared.view.ItemView.{ItemView}
-use Rattle.feed_telling.specs.Tell.{AreFit}
+use Rattle.feed_telling.specs.Tell.{AreFit, AreTold}
 use Rattle.feed_telling.proofs.Telling.{both_fit}
 use Rattle.run_model.specs.Slices.{begins_slice}
 use Rattle.feed_log.specs.Progress.{BeginsWith, IsFirst}
 use Rattle.feed_run.specs.Whole.{AreUnread}
 
--- more items are told
-pub unread_more : (xs ys : List Item) (log : List ItemSeen) → AreUnread xs log → AreFit ys
-    → AreUnread (xs ++ ys) (log ++ map item_seen ys)
-unread_more xs ys log unread fit =
-    let more = map item_seen ys in
-    let k = length xs - length log in
-    let few = unread.few in
-    let log_more : length (log ++ more) ≡ length log + length ys = length-append log more ∙ ap (λ n. length log + n) (length-map ys item_seen) in
-    let all_more : length (xs ++ ys) ≡ length xs + length ys = length-append xs ys in
-    let same : length (xs ++ ys) - length (log ++ more) ≡ k = omega (arith, log_more, all_more) in
-    let size : length (map item_seen xs) ≡ length xs = length-map xs item_seen in
-    let within : k ≤ length (map item_seen xs) = omega (arith, size) in
-    record {
-      few = omega (arith, few, log_more, all_more);
-      last = ap (λ (read : List ItemSeen). read ++ more) unread.last
-          ∙ sym (drop-append-le k (map item_seen xs) more within)
-          ∙ ap (drop k) (sym (map-append item_seen xs ys))
-          ∙ ap (λ n. drop n (map item_seen (xs ++ ys))) (sym same);
-      fit = both_fit xs ys unread.fit fit;
-    }
+-- A feed and these items behind it, which are told behind those that weren't read.
+module _ (xs ys all : List Item) (log new : List ItemSeen) (is : all ≡ xs ++ ys) (told : AreTold log new ys) where
+  feed_more : length all ≡ length xs + length ys
+  feed_more = ap length is ∙ length-append xs ys
+
+  log_more : length new ≡ length log + length ys
+  log_more = ap length told.log ∙ length-append log (map item_seen ys) ∙ ap (λ n. length log + n) (length-map ys item_seen)
+
+  -- how many are read stays
+  pub read_on : length all - length new ≡ length xs - length log
+  read_on = omega (arith, feed_more, log_more)
+
+  pub unread_on : AreUnread xs log → AreUnread all new
+  unread_on unread =
+      let more = map item_seen ys in
+      let k = length xs - length log in
+      let few = unread.few in
+      let within : k ≤ length (map item_seen xs) = let size = length-map xs item_seen in omega (arith, size) in
+      record {
+        few = omega (arith, few, feed_more, log_more);
+        last = told.log
+            ∙ ap (λ (old : List ItemSeen). old ++ more) unread.last
+            ∙ sym (drop-append-le k (map item_seen xs) more within)
+            ∙ ap (drop k) (sym (map-append item_seen xs ys))
+            ∙ (λ i. drop (sym read_on i) (map item_seen (sym is i)));
+        fit = subst AreFit (sym is) (both_fit xs ys unread.fit told.fit);
+      }
 
 -- a slice begins with an item as it is shown where it begins with the item
 begins_alike : (x : Item) → begins_seen (item_seen x) ≡ begins_slice x

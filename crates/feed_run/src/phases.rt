@@ -7,7 +7,7 @@ ghost use Rattle.world_model.specs.Book.{is_idle_book};
 ghost use Rattle.world_model.specs.Deadlines.{takings};
 ghost use Rattle.world_model.specs.Event.{happen};
 ghost use Rattle.world_model.specs.Tick.{serve_phases, step as step_phase, timer as timer_phase, turn as turn_phase};
-ghost use Rattle.aegis_tick.specs.Course.{occurrences};
+ghost use Rattle.aegis_tick.specs.Agenda.{occurrences};
 ghost use Rattle.aegis_tick.specs.Halves.{MayFinish};
 ghost use Rattle.feed_run.specs.Phases.{PhasesTold, PhaseTold, phases_with};
 

@@ -6,7 +6,7 @@ ghost use Rattle.feed_log.specs.Progress.{at_boot};
 
 use aegis_calls::Board;
 use aegis_limits::{MOST_TICKS, OutOfMemory};
-use aegis_tick::boot;
+use aegis_tick::Course;
 use boot_image::Image;
 use external_event::Event;
 use feed_boot::tell_record;
@@ -17,12 +17,8 @@ use world_model::WorldView;
 /// A run of a board in which what one environment is given is told: its record at boot, and then what each tick brings.
 #[derive(Drop)]
 pub struct BoardRun<'i, 'b, 'e> {
-    pub(crate) image: &'i Image<'b>,
-    pub(crate) events: &'e [Event],
+    pub(crate) course: Course<'i, 'b, 'e>,
     pub(crate) watched: u8,
-    pub(crate) board: Board,
-    /// The events that are to come.
-    pub(crate) coming: &'e [Event],
     /// The items that weren't read.
     pub(crate) log: FeedLog,
     /// The items of the tick under way.
@@ -46,15 +42,12 @@ impl<'i, 'b, 'e> BoardRun<'i, 'b, 'e> {
         ensures begins { IfOk result (λ r. progress_of r ≡ at_boot (record { image = image.now; schedule = schedule_of events.now }) watched) }
         ensures whole { IfOk result IsWholeRun }
     {
-        let board = boot(alloc, image)?;
+        let course = Course::boot(alloc, image, events)?;
         let mut log = FeedLog::new(alloc);
-        tell_record(alloc, image, &board, &mut log, watched)?;
+        tell_record(alloc, image, &course.board, &mut log, watched)?;
         Ok(BoardRun {
-            image,
-            events,
+            course,
             watched,
-            board,
-            coming: events,
             log,
             tick: FeedLog::new(alloc),
             ended: 0,
@@ -83,7 +76,7 @@ impl ToldRun for BoardRun<'_, '_, '_> {
     ghost IsWhole = { IsWholeRun };
 
     fn view(&self) -> &Board {
-        &self.board
+        &self.course.board
     }
 
     fn slices(&self) -> u32 {
@@ -104,7 +97,8 @@ impl ToldRun for BoardRun<'_, '_, '_> {
     }
 
     fn pass(&mut self) -> Result<bool, OutOfMemory> {
-        if self.board.idle() || self.board.time() == MOST_TICKS {
+        let board = &self.course.board;
+        if board.idle() || board.time() == MOST_TICKS {
             return Ok(false);
         }
         self.drop_read();

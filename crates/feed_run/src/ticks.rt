@@ -8,9 +8,8 @@ use crate::phases::tell_tick;
 use crate::reach::is_out_of_reach;
 use crate::run::BoardRun;
 use aegis_limits::{MOST_TICKS, OutOfMemory};
-use aegis_tick::{due_and_later, quiet_ticks};
+use page_laws::law_through;
 use run_model::law_time;
-use sharing_law::law_stores;
 use tlb_course::law_further;
 use world_model::WorldView;
 
@@ -33,23 +32,22 @@ impl BoardRun<'_, '_, '_> {
 
     /// Whether the environment runs.
     fn is_running(&self) -> bool
-        ensures { result ≡ is_runner self.now.watched (world_of self.now.board).book.runner }
+        ensures { result ≡ is_runner self.now.watched (world_of self.now.course.board).book.runner }
     {
-        self.board.runner() == Some(self.watched)
+        self.course.board.runner() == Some(self.watched)
     }
 
     /// Makes the next tick, told phase by phase. The result is whether a slice of the environment ended in it.
     pub(crate) fn make_tick(&mut self) -> Result<bool, OutOfMemory>
         requires whole { IsWholeRun self.old }
-        requires busy { is_idle_book (world_of self.old.board).book ≡ false }
-        requires time { self.old.board.time < most_ticks }
+        requires busy { is_idle_book (world_of self.old.course.board).book ≡ false }
+        requires time { self.old.course.board.time < most_ticks }
         ensures went { IfOk result (WentATick (progress_of self.old) (progress_of self.new)) }
         ensures whole { OnOk result (IsWholeRun self.new) }
     {
         let ran = self.is_running();
-        let (now, later) = due_and_later(self.coming, self.board.time());
-        tell_tick(&mut self.board, &mut self.tick, self.watched, now)?;
-        self.coming = later;
+        let now = self.course.due();
+        tell_tick(&mut self.course.board, &mut self.tick, self.watched, now)?;
         let begins = self.log.receive(&mut self.tick)?;
         self.tick.clear();
         let has_ended = slice_ended(ran, begins, self.is_running());
@@ -66,17 +64,17 @@ impl BoardRun<'_, '_, '_> {
     {
         law_time();
         law_further();
-        law_stores();
-        let Some(runner) = self.board.runner() else {
+        law_through();
+        let board = &self.course.board;
+        let Some(runner) = board.runner() else {
             return Ok(());
         };
         let is_own = runner == self.watched;
-        if !is_own && !is_out_of_reach(&self.board, runner, self.watched) {
+        if !is_own && !is_out_of_reach(board, runner, self.watched) {
             return Ok(());
         }
-        let time = self.board.time();
-        let quiet = quiet_ticks(self.coming, time, MOST_TICKS - time);
-        let steps = self.board.stretch(quiet);
+        let most = MOST_TICKS - board.time();
+        let steps = self.course.glide(most);
         if is_own {
             self.log.push_steps(steps)?;
         }

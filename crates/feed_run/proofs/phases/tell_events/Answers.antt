@@ -8,7 +8,7 @@ use Rattle.world_model.specs.Event.{happen}
 use Rattle.world_model.specs.Book.{is_idle_book}
 use Rattle.world_model.specs.World.{World, Reply, after}
 use Rattle.feed_telling.specs.Tell.{AreTold}
-use Rattle.aegis_tick.specs.Course.{occurrences}
+use Rattle.aegis_tick.specs.Agenda.{occurrences}
 use Rattle.feed_run.specs.Phases.{PhasesTold}
 use Rattle.feed_run.proofs.Joined.{both_told, one_event_more, one_told}
 use Rattle.feed_run.proofs.phases.tell_events.Goals as goal

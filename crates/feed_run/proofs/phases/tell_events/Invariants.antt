@@ -3,7 +3,7 @@ use Rattle.std.proofs.Common.{◌≡◌, map, take}
 use Rattle.board_model.specs.Showing.{world_of}
 use Rattle.world_model.specs.Book.{is_idle_book}
 use Rattle.world_model.specs.Event.{happen}
-use Rattle.aegis_tick.specs.Course.{occurrences}
+use Rattle.aegis_tick.specs.Agenda.{occurrences}
 use Rattle.feed_run.specs.Phases.{PhasesTold}
 use Rattle.feed_run.proofs.phases.tell_events.Given as goal
 

@@ -41,12 +41,12 @@ loop-place-preserved c =
     record {
       told = subst (λ (phases : List (World → Reply)). PhasesTold e phases w v c.args.log.now c.tell_taking.new.log) (one_taking_more xs i x c.get-taking.ensures.at)
           (both_told e (map takes (take i xs)) (takes x ∷ []) w u v c.args.log.now c.loop-place.log c.tell_taking.new.log now.told told);
-      may = subst (λ (t : ℕ). AreTakable (revocations v.book) t rest) (sym taken.time)
+      may = subst (λ (t : ℕ). AreTakable (revocations v.book) t rest) (sym taken.same.time)
           (subst (λ (t : World). AreTakable (revocations t.book) b.time rest) (sym taken.world) next);
       idle = taken.idle ∙ now.idle;
-      time = taken.time ∙ now.time;
-      whole = taken.whole ∙ now.whole;
-      numbers = taken.numbers ∙ now.numbers;
+      time = taken.same.time ∙ now.time;
+      whole = taken.same.whole ∙ now.whole;
+      numbers = taken.same.numbers ∙ now.numbers;
       room = omega (arith, taken.room, now.room);
     }
 

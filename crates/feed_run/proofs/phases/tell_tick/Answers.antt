@@ -5,7 +5,7 @@ use Rattle.world_model.specs.Deadlines.{takings}
 use Rattle.world_model.specs.Event.{happen}
 use Rattle.world_model.specs.Tick.{serve_phases, step, tick_phases, timer, turn}
 use Rattle.world_model.specs.World.{World, Reply}
-use Rattle.aegis_tick.specs.Course.{occurrences}
+use Rattle.aegis_tick.specs.Agenda.{occurrences}
 use Rattle.feed_telling.proofs.Telling.{on_ok}
 use Rattle.feed_run.specs.Phases.{PhasesTold}
 use Rattle.feed_run.proofs.Joined.{both_told, tick_joined}
