@@ -10,6 +10,7 @@ use Rattle.run_model.specs.Run.{next_world, world_after_ticks}
 use Rattle.board_model.specs.Shown.{Shown}
 use Rattle.board_model.specs.Showing.{world_of}
 use Rattle.board_model.specs.Stretch.{IsQuiet, IsSteady}
+use Rattle.aegis_calls.specs.QuietTicks.{AreQuietTicks, AreSteadyTicks}
 use Rattle.wire_model.specs.Laws.{BeginAtZero}
 use Rattle.wire_model.specs.Wire.{Wire, arrivals, joined, sent_between, wired, world_on_wire}
 use Rattle.wire_net.specs.Delivery.{arriving}
@@ -48,6 +49,10 @@ none_are_silent from ticks w none = record {
       let first : 0 ≡ k = omega arith in
       subst (λ (n : ℕ). IsSteady w (world_after_ticks schedule w n)) first (steady_itself w);
 }
+
+-- so are those in which nothing happens but steps
+pub stretch_is_silent : (ticks : ℕ) (b c : Shown) → AreQuietTicks b c ticks → AreSteadyTicks b ticks → AreSilent b.time ticks (world_of b) (world_of c)
+stretch_is_silent ticks b c world steady = record { world = world; steady = λ schedule k quiet within. (steady schedule quiet).stays k within }
 
 -- behind silent ticks nobody has sent more
 pub steady_behind : (from ticks : ℕ) (w v : World) → AreSilent from ticks w v → IsSteady w v
@@ -91,12 +96,12 @@ world_from net i t next later w after at = record { world = at.world; silent = �
 
 module _ (laws : Laws) (net : Wire) (i : ℕ) (zeros : BeginAtZero net) (inside : i < net.count) where
   -- where its schedule says nothing and nothing comes for it, nothing happens in it from outside
-  pub quiet_on_wire : (t until : ℕ) → 1 ≤ net.delay → ((u : ℕ) → t ≤ u → u < until → (net.machines i).schedule u ≡ []) → ((u : ℕ) → t ≤ u → u < until → coming_at net u ≡ [])
+  pub quiet_on_wire : (t until : ℕ) → 1 ≤ net.delay → IsQuiet (net.machines i).schedule t until → ((u : ℕ) → t ≤ u → u < until → coming_at net u ≡ [])
       → IsQuiet (wired net until i) t until
   quiet_on_wire t until least own none = record {
     nothing = λ u from before.
         laws.happens net i u until before
-        ∙ ap (λ (xs : List Occurrence). xs ++ arrivals net (wired net u) u i) (own u from before)
+        ∙ ap (λ (xs : List Occurrence). xs ++ arrivals net (wired net u) u i) (own.nothing u from before)
         ∙ sym (arrivals_are laws.frames net i u zeros least)
         ∙ ap (arriving i) (none u from before);
   }

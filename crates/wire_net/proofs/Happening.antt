@@ -4,12 +4,11 @@ use Rattle.std.specs.Prelude.{filter, Result, OnErr}
 use Rattle.std.proofs.lemmas.List.{append-nil, append_assoc, map-append, take-append-drop, take_at, take_more}
 use Rattle.std.proofs.lemmas.List.Elements.{filter-append}
 use Rattle.external_event.specs.declared.event.Occurrence.{Occurrence}
-use Rattle.external_event.specs.EventValue.{EventValue}
 use Rattle.world_model.specs.Book.{is_idle_book}
 use Rattle.world_model.specs.Event.{happen}
 use Rattle.world_model.specs.World.{World, after, run_phases}
 use Rattle.run_model.proofs.Phases.{run_append}
-use Rattle.aegis_tick.specs.Course.{HappenedInPart, occurrences, world_with}
+use Rattle.aegis_tick.specs.Course.{HappenedInPart, world_with}
 use Rattle.wire_net.specs.declared.delivery.Delivery.{Delivery}
 use Rattle.wire_net.specs.Delivery.{arriving, is_delivery_for}
 
@@ -46,24 +45,6 @@ part_of_second xs ys w u v first part =
 
 pub part_whole : (xs : List Occurrence) (w v : World) → v ≡ world_with xs w → HappenedInPart xs w v
 part_whole xs w v now = part_by xs xs [] w v (sym (append-nil xs)) now
-
--- the events so far, and one more
-pub events_more : (es : List EventValue) (i : ℕ) (e : EventValue) → i < length es → e ≡ get_or es i e → occurrences (take (i + 1) es) ≡ occurrences (take i es) ++ e.what ∷ []
-events_more es i e within is =
-    ap occurrences (take_more es i e within ∙ ap (λ (x : EventValue). take i es ++ x ∷ []) (sym is)) ∙ map-append (λ (x : EventValue). x.what) (take i es) (e ∷ [])
-
-one_more : (xs : List Occurrence) (what : Occurrence) (w : World) → world_with (xs ++ what ∷ []) w ≡ (let v = world_with xs w in after v (happen what v))
-one_more xs what w = in_two xs (what ∷ []) w
-
-pub event_more : (w : World) (es : List EventValue) (i : ℕ) (e : EventValue) → i < length es → e ≡ get_or es i e →
-    world_with (occurrences (take (i + 1) es)) w ≡ (let v = world_with (occurrences (take i es)) w in after v (happen e.what v))
-event_more w es i e within is = ap (λ (xs : List Occurrence). world_with xs w) (events_more es i e within is) ∙ one_more (occurrences (take i es)) e.what w
-
-pub events_in_part : (es : List EventValue) (i : ℕ) (w v : World) → v ≡ world_with (occurrences (take i es)) w → HappenedInPart (occurrences es) w v
-events_in_part es i w v now =
-    let what = λ (x : EventValue). x.what in
-    part_by (occurrences es) (occurrences (take i es)) (occurrences (drop i es)) w v
-    (ap occurrences (sym (take-append-drop i es)) ∙ map-append what (take i es) (drop i es)) now
 
 -- ---- arrivals
 

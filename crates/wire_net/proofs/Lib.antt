@@ -1,6 +1,5 @@
 mod Queue
 mod Happening
-mod Coming
 mod Sends
 mod Wiring
 mod Ahead

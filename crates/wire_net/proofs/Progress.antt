@@ -4,21 +4,23 @@ use Rattle.std.specs.Prelude.{Vec}
 use Rattle.std.specs.Global.{Global}
 use Rattle.std.proofs.lemmas.Bool.{cases_eq, cases_lt}
 use Rattle.external_event.specs.EventValue.{EventValue}
+use Rattle.external_event.specs.Order.{are_in_order}
 use Rattle.board_model.specs.Shown.{Shown}
 use Rattle.board_model.specs.Showing.{world_of}
 use Rattle.board_model.specs.Ticks.{IsFresh}
+use Rattle.aegis_tick.specs.Agenda.{AgendasAreRight}
 use Rattle.wire_model.specs.Laws.{BeginAtZero}
-use Rattle.wire_model.specs.Wire.{Wire, joined, sent_between, world_on_wire}
+use Rattle.wire_model.specs.Wire.{Wire, sent_between, world_on_wire}
 use Rattle.wire_net.specs.declared.delivery.Batch.{Batch}
 use Rattle.wire_net.specs.declared.delivery.Delivery.{Delivery}
 use Rattle.wire_net.specs.declared.net.Station.{Station}
 use Rattle.wire_net.specs.Course.{AllCameSoFar, AllShow, IsWireOf}
-use Rattle.wire_net.specs.Delivery.{due_at, rise_between}
-use Rattle.wire_net.specs.Station.{Happened, IsThrough}
+use Rattle.wire_net.specs.Delivery.{Rise, due_at}
+use Rattle.wire_net.specs.Sending.{sent_by_all}
+use Rattle.wire_net.specs.Stations.{AreAtStart, AreThrough, HaveHappened, NoneBefore}
 use Rattle.wire_net.proofs.Ahead.{IsWorldAt, world_from}
-use Rattle.wire_net.proofs.Machine.{IsPlaced, IsReady, IsUntil, came_when, placed_from, placed_next, sent_now, shown_next}
+use Rattle.wire_net.proofs.Machine.{IsPlaced, IsReady, IsUntil, came_when, placed_first, placed_from, placed_next, sent_now, shown_next}
 use Rattle.wire_net.proofs.Queue.{none_from}
-use Rattle.wire_net.proofs.Ticking.{sends}
 use Rattle.wire_net.proofs.Wiring.{Laws, begin_at_zero, came_to, coming_at, none_is_coming, sent_in_tick, sent_is_coming, shown_first, witness}
 
 -- all machines stand between two ticks
@@ -31,28 +33,38 @@ abbrev pub AllAhead : Wire → ℕ → List Shown → List Station → Type 0
 AllAhead net t boards stations = (i : ℕ) (b : Shown) (s : Station) → i < length boards
     → IsWorldAt net i t (get_or stations i s).time (world_of (get_or boards i b))
 
--- all are through with a tick
-abbrev AllThrough : ℕ → ℕ → List Delivery → List Shown → List Station → List Shown → List Station → Type 0
-AllThrough t until now boards stations next behind = (i : ℕ) (b : Shown) (s : Station) → i < length boards
-    → IsThrough i t until now (get_or boards i b) (get_or stations i s) (get_or next i b) (get_or behind i s)
-
 -- how many boards, stations and schedules there are
 pub record AreMany (count : ℕ) (events : List (Vec EventValue Global)) (boards : List Shown) (stations : List Station) : Type 0 where
   pub schedules : length events ≡ count
   pub boards_are : length boards ≡ count
   pub stations_are : length stations ≡ count
 
-pub all_placed_next : (count t until limit : ℕ) (events : List (Vec EventValue Global)) (boards : List Shown) (stations : List Station) (now : List Delivery) (next : List Shown) (behind : List Station)
+-- so they stand at the start
+pub all_placed_first : (limit : ℕ) (events : List (Vec EventValue Global)) (boards : List Shown) (stations : List Station) → ((i : ℕ) (b : Shown) → i < length boards → IsFresh (get_or boards i b))
+    → ((i : ℕ) (v : Vec EventValue Global) → i < length boards → are_in_order 0 (get_or events i v).items ≡ true) → AreAtStart boards events stations → AllPlaced events 0 limit boards stations
+all_placed_first limit events boards stations fresh ordered start i b s v within =
+    placed_first limit (get_or events i v).items (get_or stations i s) (get_or boards i b) (fresh i b within) (ordered i v within) (start.time i s within) (start.agenda i s v within) (start.sent i s b within)
+
+pub all_ahead_first : (events : List (Vec EventValue Global)) (delay : ℕ) (net : Wire) (boards : List Shown) (stations : List Station) → IsWireOf boards events delay net
+    → AreAtStart boards events stations → AllAhead net 0 boards stations
+all_ahead_first events delay net boards stations is start i b s within =
+    let time = start.time i s within in
+    record {
+      world = shown_first boards events delay net is i b within ∙ ap (world_on_wire net i) (sym time);
+      silent = λ u from before. absurd (omega arith);
+    }
+
+pub all_placed_next : AgendasAreRight → (count t until limit : ℕ) (events : List (Vec EventValue Global)) (boards : List Shown) (stations : List Station) (now : List Delivery) (next : List Shown) (behind : List Station)
     → AreMany count events boards stations → AreMany count events next behind → IsUntil t until limit → AllPlaced events t limit boards stations
-    → AllThrough t until now boards stations next behind → AllPlaced events (t + 1) limit next behind
-all_placed_next count t until limit events boards stations now next behind are becoming is placed through i b s v within =
+    → AreThrough t until now boards stations next behind → AllPlaced events (t + 1) limit next behind
+all_placed_next agendas count t until limit events boards stations now next behind are becoming is placed through i b s v within =
     let many = are.boards_are in
     let more = becoming.boards_are in
-    placed_next i t until limit now (get_or events i v).items (get_or boards i b) (get_or stations i s) (get_or next i b) (get_or behind i s) is
+    placed_next agendas i t until limit now (get_or events i v).items (get_or boards i b) (get_or stations i s) (get_or next i b) (get_or behind i s) is
     (placed i b s v (omega arith)) (through i b s (omega arith))
 
 pub all_placed_from : (t next limit : ℕ) (events : List (Vec EventValue Global)) (boards : List Shown) (stations : List Station) → length stations ≡ length boards
-    → ((i : ℕ) (s : Station) → i < length stations → next ≤ (get_or stations i s).time) → AllPlaced events t limit boards stations → AllPlaced events next limit boards stations
+    → NoneBefore next stations → AllPlaced events t limit boards stations → AllPlaced events next limit boards stations
 all_placed_from t next limit events boards stations same each placed i b s v within =
     placed_from t next limit (get_or events i v).items (get_or stations i s) (get_or boards i b) (each i s (omega arith)) (placed i b s v within)
 
@@ -121,7 +133,7 @@ module _ (laws : Laws) (first : List Shown) (events : List (Vec EventValue Globa
 
     -- where it was refused, each came so far
     pub all_came_when : (next : List Shown) → length next ≡ length first
-        → ((i : ℕ) (b : Shown) (s : Station) → i < length boards → Happened i t until now (get_or boards i b) (get_or stations i s) (get_or next i b)) → AllCameSoFar net limit next
+        → HaveHappened t until now boards stations next → AllCameSoFar net limit next
     all_came_when next same happened i b within =
         let many = are.boards_are in
         let men = are.stations_are in
@@ -131,7 +143,7 @@ module _ (laws : Laws) (first : List Shown) (events : List (Vec EventValue Globa
         let v = witness events i (omega arith) in
         came_when laws net i t until limit (get_or events i v).items (get_or stations i s) now (get_or boards i b) (ready i b s v here) (get_or next i b) (happened i b s (omega arith))
 
-    module _ (next : List Shown) (behind : List Station) (becoming : AreMany (length first) events next behind) (through : AllThrough t until now boards stations next behind) where
+    module _ (next : List Shown) (behind : List Station) (becoming : AreMany (length first) events next behind) (through : AreThrough t until now boards stations next behind) where
       -- once all are through with the tick, each board shows its world
       pub all_ahead_next : AllAhead net (t + 1) next behind
       all_ahead_next i b s within =
@@ -153,7 +165,7 @@ module _ (laws : Laws) (first : List Shown) (events : List (Vec EventValue Globa
           sent_now laws net i t until limit (get_or events i v).items (get_or stations i s) now (get_or boards i b) (ready i b s v within) (get_or next i b) (get_or behind i s) (through i b s (omega arith))
 
       -- in the ticks before the first that one of them makes next nothing is sent
-      none_sent : (later : ℕ) → ((i : ℕ) (s : Station) → i < length behind → later ≤ (get_or behind i s).time) → (u : ℕ) → t + 1 ≤ u → u < later → coming_at net (u + delay) ≡ []
+      none_sent : (later : ℕ) → NoneBefore later behind → (u : ℕ) → t + 1 ≤ u → u < later → coming_at net (u + delay) ≡ []
       none_sent later each u from below =
           none_is_coming laws.worlds net u delay zeros is.delay
           (λ i in_net.
@@ -167,15 +179,15 @@ module _ (laws : Laws) (first : List Shown) (events : List (Vec EventValue Globa
 
       -- what was sent in the tick is delivered once the delay is over, the rest as before, and nothing behind it
       pub due_next : (later : ℕ) (out : List Delivery) (put : List Batch) (b : Shown)
-          → t + 1 ≤ later → ((i : ℕ) (s : Station) → i < length behind → later ≤ (get_or behind i s).time)
-          → out ≡ joined (sends (t + delay) boards next b) (length first)
-          → ((u : ℕ) → u < t + delay → due_at u put ≡ due_at u rest) → due_at (t + delay) put ≡ out → rise_between (t + 1) (t + delay + 1) put ≡ true
+          → t + 1 ≤ later → NoneBefore later behind
+          → out ≡ sent_by_all (t + delay) boards next b
+          → ((u : ℕ) → u < t + delay → due_at u put ≡ due_at u rest) → due_at (t + delay) put ≡ out → Rise (t + 1) (t + delay + 1) put
           → (s : ℕ) → later ≤ s → s < later + delay → due_at s put ≡ coming_at net s
       due_next later out put b after each sent before last rises s from below =
           elim (cases_eq s (t + delay)) [
             | inl here ↦
                 subst (λ (u : ℕ). due_at u put ≡ coming_at net u) (sym here)
-                (last ∙ sent ∙ sent_is_coming first events delay net is laws.worlds zeros t boards next b (all_sent b))
+                (last ∙ sent ∙ sent_is_coming first events delay net is laws.worlds zeros t boards next b (all_sent b) are.boards_are)
             | inr other ↦
                 elim (cases_lt s (t + delay)) [
                   | inl sooner ↦ before s sooner ∙ others s (omega arith) ∙ due s (omega arith) (omega arith)

@@ -7,16 +7,18 @@ use Rattle.std.proofs.lemmas.List.Elements.{filter-append}
 use Rattle.external_event.specs.Packet.{is_packet}
 use Rattle.wire_model.specs.Wire.{framed, joined}
 use Rattle.wire_net.specs.declared.delivery.Delivery.{Delivery}
+use Rattle.wire_net.specs.declared.sending.Route.{Route}
 use Rattle.wire_net.specs.Delivery.{delivered_at, deliveries_of}
+use Rattle.wire_net.specs.Sending.{packets_sent}
 
-module _ (sender time : ℕ) where
-  -- those of these that are packets, as deliveries
+module _ (route : Route) where
   abbrev sent : List (List ℕ) → List Delivery
-  sent packets = deliveries_of sender time (filter is_packet packets)
+  sent packets = packets_sent route packets
 
   sent_in_two : (xs ys : List (List ℕ)) → sent (xs ++ ys) ≡ sent xs ++ sent ys
   sent_in_two xs ys =
-      ap (deliveries_of sender time) (filter-append is_packet xs ys) ∙ map-append (λ (packet : List ℕ). delivered_at time (framed sender packet)) (filter is_packet xs) (filter is_packet ys)
+      ap (deliveries_of route.sender route.time) (filter-append is_packet xs ys)
+      ∙ map-append (λ (packet : List ℕ). delivered_at route.time (framed route.sender packet)) (filter is_packet xs) (filter is_packet ys)
 
   -- one more is sent of those that are left
   pub one_sent : (packets : List (List ℕ)) (place : ℕ) (out new all : List Delivery) → place < length packets

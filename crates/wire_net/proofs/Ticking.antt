@@ -5,7 +5,6 @@ use Rattle.std.proofs.lemmas.Bool.{cases_eq, cases_lt, cond_both}
 use Rattle.std.proofs.lemmas.List.{get_or-set_other, get_or-set_same}
 use Rattle.external_event.specs.Packet.{is_packet}
 use Rattle.board_model.specs.Shown.{Shown}
-use Rattle.board_model.specs.Showing.{world_of}
 use Rattle.external_event.specs.declared.event.Occurrence.{Occurrence}
 use Rattle.world_model.specs.Book.{is_idle_book}
 use Rattle.world_model.specs.Deadlines.{takings}
@@ -15,7 +14,7 @@ use Rattle.world_model.specs.World.{World, Reply, after, run_phases}
 use Rattle.wire_model.specs.Wire.{after_tick, joined, sent_between}
 use Rattle.wire_net.specs.declared.delivery.Delivery.{Delivery}
 use Rattle.wire_net.specs.declared.net.Station.{Station}
-use Rattle.wire_net.specs.Delivery.{deliveries_of}
+use Rattle.wire_net.specs.Sending.{sent_by, sent_by_first}
 use Rattle.wire_net.specs.Station.{Happened, IsThrough, Partly}
 use Rattle.wire_net.proofs.Wiring.{joined_alike}
 
@@ -66,26 +65,23 @@ pub left_more : {A : Type 0} (first now : List A) (place : ℕ) (x : A) → ((i 
     → (i : ℕ) (d : A) → place + 1 ≤ i → get_or (set now place x) i d ≡ get_or first i d
 left_more first now place x left i d later = get_or-set_other now place i x d (λ same. omega arith) ∙ left i d (omega arith)
 
--- what machines sent in a tick between these boards
-abbrev pub sends : ℕ → List Shown → List Shown → Shown → ℕ → List Delivery
-sends arrival old new b i = deliveries_of i arrival (sent_between (world_of (get_or old i b)) (world_of (get_or new i b)))
-
 pub out_more : (arrival : ℕ) (boards now : List Shown) (place : ℕ) (board b old : Shown) (first out new : List Delivery) → place < length now → old ≡ get_or boards place b
-    → out ≡ first ++ joined (sends arrival boards now b) place → new ≡ out ++ deliveries_of place arrival (sent_between (world_of old) (world_of board))
-    → new ≡ first ++ joined (sends arrival boards (set now place board) b) (place + 1)
+    → out ≡ first ++ sent_by_first place arrival boards now b → new ≡ out ++ sent_by place arrival old board
+    → new ≡ first ++ sent_by_first (place + 1) arrival boards (set now place board) b
 out_more arrival boards now place board b old first out new within was before more =
     let next : suc place ≡ place + 1 = omega arith in
-    let late = sends arrival boards (set now place board) b in
-    let here : deliveries_of place arrival (sent_between (world_of old) (world_of board)) ≡ late place =
-    ap (λ (x : Shown). deliveries_of place arrival (sent_between (world_of x) (world_of board))) was
-    ∙ ap (λ (x : Shown). deliveries_of place arrival (sent_between (world_of (get_or boards place b)) (world_of x))) (sym (get_or-set_same now place board b within)) in
-    let same : joined (sends arrival boards now b) place ≡ joined late place =
-    joined_alike (sends arrival boards now b) late place
-    (λ i less. ap (λ (x : Shown). deliveries_of i arrival (sent_between (world_of (get_or boards i b)) (world_of x))) (sym (get_or-set_other now place i board b (λ same. omega arith)))) in
+    let late = λ (i : ℕ). sent_by i arrival (get_or boards i b) (get_or (set now place board) i b) in
+    let one = sent_by place arrival old board in
+    let here : one ≡ late place =
+    ap (λ (x : Shown). sent_by place arrival x board) was
+    ∙ ap (sent_by place arrival (get_or boards place b)) (sym (get_or-set_same now place board b within)) in
+    let same : sent_by_first place arrival boards now b ≡ joined late place =
+    joined_alike (λ (i : ℕ). sent_by i arrival (get_or boards i b) (get_or now i b)) late place
+    (λ i less. ap (sent_by i arrival (get_or boards i b)) (sym (get_or-set_other now place i board b (λ same. omega arith)))) in
     more
-    ∙ ap (λ (xs : List Delivery). xs ++ deliveries_of place arrival (sent_between (world_of old) (world_of board))) before
-    ∙ append_assoc first (joined (sends arrival boards now b) place) (deliveries_of place arrival (sent_between (world_of old) (world_of board)))
-    ∙ ap (λ (xs : List Delivery). first ++ (xs ++ deliveries_of place arrival (sent_between (world_of old) (world_of board)))) same
+    ∙ ap (λ (xs : List Delivery). xs ++ one) before
+    ∙ append_assoc first (sent_by_first place arrival boards now b) one
+    ∙ ap (λ (xs : List Delivery). first ++ (xs ++ one)) same
     ∙ ap (λ (xs : List Delivery). first ++ (joined late place ++ xs)) here
     ∙ ap (λ (n : ℕ). first ++ joined late n) next
 

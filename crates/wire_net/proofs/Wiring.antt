@@ -13,14 +13,15 @@ use Rattle.board_model.specs.Shown.{Shown}
 use Rattle.board_model.specs.Showing.{world_of}
 use Rattle.board_model.specs.Ticks.{IsFresh}
 use Rattle.run_model.specs.Run.{TimeIsTick, happens_in}
+use Rattle.aegis_tick.specs.Agenda.{AgendasAreRight, AreComing}
 use Rattle.aegis_tick.specs.Course.{HappenedInPart, world_with}
 use Rattle.wire_model.specs.Laws.{BeginAtZero, FramesAreSettled, HappensOnWire, TicksOnWire, WorldsAreSettled}
 use Rattle.wire_model.specs.Wire.{Frame, Wire, arrival, arrivals, framed, is_frame_for, joined, put_on_wire, sent_between, wired, world_in, world_on_wire}
 use Rattle.wire_net.specs.declared.delivery.Delivery.{Delivery}
 use Rattle.wire_net.specs.Course.{AllShow, CameSoFar, IsWireOf}
 use Rattle.wire_net.specs.Delivery.{arriving, delivered_at, deliveries_of, is_delivery_for}
-use Rattle.wire_net.specs.Station.{happening}
-use Rattle.wire_net.proofs.Coming.{IsComing, coming_now}
+use Rattle.wire_net.specs.Sending.{sent_by, sent_by_all}
+use Rattle.wire_net.specs.Station.{happening_at}
 
 -- ---- frames
 
@@ -73,6 +74,10 @@ coming_later net t delay is =
     ap (λ (test : Bool). if test then [] else map (delivered_at (t + delay)) (sent_on_wire net (t + delay - net.delay))) late
     ∙ ap (λ (u : ℕ). map (delivered_at (t + delay)) (sent_on_wire net u)) back
 
+-- and before that nothing is
+pub none_at_first : (net : Wire) (t : ℕ) → t < net.delay → coming_at net t ≡ []
+none_at_first net t below = rw (lt-ltb t net.delay below) refl
+
 -- what a machine sends in a tick
 abbrev pub sent_in_tick : Wire → ℕ → ℕ → List (List ℕ)
 sent_in_tick net t i = sent_between (world_on_wire net i t) (world_on_wire net i (t + 1))
@@ -120,11 +125,12 @@ module _ (boards : List Shown) (schedules : List (Vec EventValue Global)) (delay
   -- what the machines sent in a tick is what is delivered so many ticks later
   pub sent_is_coming : WorldsAreSettled → BeginAtZero net → (t : ℕ) (old new : List Shown) (b : Shown)
       → ((i : ℕ) → i < length boards → sent_between (world_of (get_or old i b)) (world_of (get_or new i b)) ≡ sent_in_tick net t i)
-      → joined (λ (i : ℕ). deliveries_of i (t + delay) (sent_between (world_of (get_or old i b)) (world_of (get_or new i b)))) (length boards) ≡ coming_at net (t + delay)
-  sent_is_coming settled zeros t old new b are =
+      → length old ≡ length boards → sent_by_all (t + delay) old new b ≡ coming_at net (t + delay)
+  sent_is_coming settled zeros t old new b are many =
       let late = t + delay in
-      joined_alike
-      (λ i. deliveries_of i late (sent_between (world_of (get_or old i b)) (world_of (get_or new i b))))
+      ap (joined (λ i. sent_by i late (get_or old i b) (get_or new i b))) many
+      ∙ joined_alike
+      (λ i. sent_by i late (get_or old i b) (get_or new i b))
       (λ i. map (delivered_at late) (map (framed i) (sent_in_tick net t i)))
       (length boards)
       (λ i within. ap (deliveries_of i late) (are i within) ∙ framed_deliveries i late (sent_in_tick net t i))
@@ -136,20 +142,21 @@ module _ (boards : List Shown) (schedules : List (Vec EventValue Global)) (delay
 -- ---- a tick
 
 -- what happens in a machine is what its schedule says, and then what arrives
-pub happening_is : FramesAreSettled → (net : Wire) (i t : ℕ) (all coming : List EventValue) → BeginAtZero net → 1 ≤ net.delay
-    → (net.machines i).schedule t ≡ schedule_of all t → IsComing t all coming
-    → happening i t (coming_at net t) coming ≡ (net.machines i).schedule t ++ arrivals net (wired net t) t i
-happening_is settled net i t all coming zeros least schedule is =
-    ap (λ (xs : List Occurrence). xs ++ arriving i (coming_at net t)) (coming_now t all coming is ∙ sym schedule)
+pub happening_is : FramesAreSettled → AgendasAreRight → (net : Wire) (i t : ℕ) (all coming : List EventValue) → BeginAtZero net → 1 ≤ net.delay
+    → (net.machines i).schedule t ≡ schedule_of all t → AreComing all t coming
+    → happening_at i t (coming_at net t) coming ≡ (net.machines i).schedule t ++ arrivals net (wired net t) t i
+happening_is settled agendas net i t all coming zeros least schedule are =
+    ap (λ (xs : List Occurrence). xs ++ arriving i (coming_at net t)) (agendas.now all coming t are ∙ sym schedule)
     ∙ ap (λ (xs : List Occurrence). (net.machines i).schedule t ++ xs) (arrivals_are settled net i t zeros least)
 
--- the laws of the model
+-- the laws of the model, and of agendas
 pub record Laws : Type 0 where
   pub worlds : WorldsAreSettled
   pub frames : FramesAreSettled
   pub happens : HappensOnWire
   pub ticks : TicksOnWire
   pub timed : TimeIsTick
+  pub agendas : AgendasAreRight
 
 -- a machine that came to the end of a tick, and one in which some of it happened
 pub came_to : WorldsAreSettled → (net : Wire) (i t ticks : ℕ) (v : World) → BeginAtZero net → i < net.count → t ≤ ticks → v ≡ world_on_wire net i t

@@ -1,5 +1,5 @@
 -- Packets that are under way, and those that are delivered.
-use Rattle.std.specs.Prelude.{ℕ, ◌+◌, List, [], ◌∷◌, Bool, true, false, nat_le, nat_lt, min, ◌==◌, ◌&&◌, if◌then◌else◌, filter, map}
+use Rattle.std.specs.Prelude.{ℕ, ◌≡◌, ◌+◌, List, [], ◌∷◌, Bool, true, false, nat_le, nat_lt, min, ◌==◌, ◌&&◌, if◌then◌else◌, filter, map}
 use Rattle.external_event.specs.declared.event.Occurrence.{Occurrence}
 use Rattle.external_event.specs.declared.event.Occurrence.TheVariants as outside
 use Rattle.wire_model.specs.Wire.{Frame, framed, comes_to}
@@ -50,3 +50,7 @@ abbrev pub rise_between : ℕ → ℕ → List Batch → Bool
 rise_between least limit [] = true
 rise_between least limit (batch ∷ batches) =
     nat_le least batch.time && (nat_lt batch.time limit && rise_between (batch.time + 1) limit batches)
+
+-- so they do
+abbrev pub Rise : ℕ → ℕ → List Batch → Type 0
+Rise least limit batches = rise_between least limit batches ≡ true

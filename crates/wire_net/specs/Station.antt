@@ -1,6 +1,5 @@
 -- A tick of one machine on a wire, and the ticks behind it in which it is alone.
-use Rattle.std.specs.Prelude.{ℕ, ◌≡◌, ◌≤◌, ◌<◌, ◌+◌, ◌-◌, ◌⊎◌, List, ◌++◌, false, ◌==◌, drop, length, get_or}
-use Rattle.std.specs.List.{take_while}
+use Rattle.std.specs.Prelude.{ℕ, ◌≡◌, ◌≤◌, ◌<◌, ◌+◌, ◌-◌, ◌⊎◌, List, ◌++◌, false, drop, length, get_or}
 use Rattle.external_event.specs.declared.event.Occurrence.{Occurrence}
 use Rattle.external_event.specs.EventValue.{EventValue}
 use Rattle.world_model.specs.Book.{is_idle_book}
@@ -10,7 +9,8 @@ use Rattle.run_model.specs.Run.{world_after_ticks}
 use Rattle.board_model.specs.Shown.{Shown}
 use Rattle.board_model.specs.Showing.{world_of}
 use Rattle.board_model.specs.Stretch.{IsQuiet, IsSteady}
-use Rattle.aegis_tick.specs.Course.{HappenedInPart, next_time_of, occurrences}
+use Rattle.aegis_tick.specs.Agenda.{first_at, next_time_of, occurrences}
+use Rattle.aegis_tick.specs.Course.{HappenedInPart}
 use Rattle.wire_model.specs.Wire.{after_tick}
 use Rattle.wire_net.specs.declared.delivery.Delivery.{Delivery}
 use Rattle.wire_net.specs.declared.net.Station.{Station}
@@ -28,17 +28,17 @@ pub record IsBetween (t : ℕ) (b : Shown) : Type 0 where
   pub time : is_idle_book (world_of b).book ≡ false → b.time ≡ t
   pub numbers : b.claims.next ≤ b.time
 
--- the events of a schedule that are of a time
-abbrev pub scheduled : ℕ → List EventValue → List EventValue
-scheduled time coming = take_while (λ (x : EventValue). x.time == time) coming
+-- what happens in a machine by these events of its schedule, and then by what is due
+abbrev pub happening : ℕ → List EventValue → List Delivery → List Occurrence
+happening machine events due = occurrences events ++ arriving machine due
 
--- what happens in a machine in a tick
-abbrev pub happening : ℕ → ℕ → List Delivery → List EventValue → List Occurrence
-happening machine time due coming = occurrences (scheduled time coming) ++ arriving machine due
+-- what happens in it in a tick
+abbrev pub happening_at : ℕ → ℕ → List Delivery → List EventValue → List Occurrence
+happening_at machine time due coming = happening machine (first_at time coming) due
 
 -- what is still to come for it after a tick
 abbrev pub still_coming : ℕ → List EventValue → List EventValue
-still_coming time coming = drop (length (scheduled time coming)) coming
+still_coming time coming = drop (length (first_at time coming)) coming
 
 -- Silent ticks from a time on, so many, lead from one world to another: wherever nothing happens in them from outside,
 -- they are ticks of the run, and nobody sends in them.
@@ -57,9 +57,8 @@ pub record IsAt (s : Station) (b : Shown) : Type 0 where
 pub record WentOn (machine time until : ℕ) (due : List Delivery) (b : Shown) (s : Station) (c : Shown) : Type 0 where
   pub turn : s.time ≡ time
   pub further : ℕ
-  pub silent : AreSilent (time + 1) further (after_tick (happening machine time due s.coming.now) (world_of b))
-      (world_of c)
-  pub before_event : further ≤ next_time_of (still_coming time s.coming.now) - (time + 1)
+  pub silent : AreSilent (time + 1) further (after_tick (happening_at machine time due s.agenda) (world_of b)) (world_of c)
+  pub before_event : further ≤ next_time_of (still_coming time s.agenda) - (time + 1)
   pub before_arrival : further ≤ until - (time + 1)
 
 -- So it did, and its station is at the tick that it makes next.
@@ -68,7 +67,7 @@ pub record Ticked (machine time until : ℕ) (due : List Delivery) (b : Shown) (
   where
     pub went : WentOn machine time until due b s c
     pub next : r.time ≡ time + 1 + went.further
-    pub coming : r.coming.now ≡ still_coming time s.coming.now
+    pub agenda : r.agenda ≡ still_coming time s.agenda
     pub here : IsAt r c
 
 -- A machine is ahead of a time, and stays as it is.
@@ -85,7 +84,7 @@ IsThrough machine time until due b s c r = Ticked machine time until due b s c r
 pub record IsWithin (machine time : ℕ) (due : List Delivery) (b : Shown) (s : Station) (c : Shown) : Type 0 where
   pub turn : s.time ≡ time
   pub busy : is_idle_book (world_of b).book ≡ false
-  pub part : HappenedInPart (happening machine time due s.coming.now) (world_of b) (world_of c)
+  pub part : HappenedInPart (happening_at machine time due s.agenda) (world_of b) (world_of c)
 
 -- So it is, or the tick was made.
 abbrev pub Partly : ℕ → ℕ → ℕ → List Delivery → Shown → Station → Shown → Type 0

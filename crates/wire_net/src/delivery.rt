@@ -1,7 +1,7 @@
 //! Packets that are under way.
-ghost use Rattle.std.specs.Prelude.{◌≡◌, ◌≤◌, ◌<◌, ◌+◌, ℕ, true, OnOk};
+ghost use Rattle.std.specs.Prelude.{◌≡◌, ◌≤◌, ◌<◌, ◌+◌, ℕ, OnOk};
 ghost use Rattle.wire_model.specs.Wire.{comes_to};
-ghost use Rattle.wire_net.specs.Delivery.{due_at, first_arrival, is_delivery_for, is_due, packet_in, rise_between};
+ghost use Rattle.wire_net.specs.Delivery.{Rise, due_at, first_arrival, is_delivery_for, is_due, packet_in};
 
 use aegis_limits::OutOfMemory;
 use external_event::{Event, Occurrence};
@@ -73,10 +73,10 @@ pub(crate) fn take_due(
     time: u32,
     limit: u32,
 ) -> Vec<Delivery>
-    requires { rise_between time limit queue.old.items ≡ true }
+    requires { Rise time limit queue.old.items }
     ensures due { result.items ≡ due_at time queue.old.items }
     ensures rest { (t : ℕ) → time < t → due_at t queue.new.items ≡ due_at t queue.old.items }
-    ensures rise { rise_between (time + 1) limit queue.new.items ≡ true }
+    ensures rise { Rise (time + 1) limit queue.new.items }
 {
     if !is_due(queue, time) {
         return Vec::new(alloc);
@@ -103,9 +103,9 @@ pub(crate) fn put(
     time: u32,
     deliveries: Vec<Delivery>,
 ) -> Result<(), OutOfMemory>
-    ensures last { (least : ℕ) → rise_between least time queue.old.items ≡ true → OnOk result (due_at time queue.new.items ≡ deliveries.items) }
+    ensures last { (least : ℕ) → Rise least time queue.old.items → OnOk result (due_at time queue.new.items ≡ deliveries.items) }
     ensures others { OnOk result ((t : ℕ) → t < time → due_at t queue.new.items ≡ due_at t queue.old.items) }
-    ensures rise { (least : ℕ) → least ≤ time → rise_between least time queue.old.items ≡ true → OnOk result (rise_between least (time + 1) queue.new.items ≡ true) }
+    ensures rise { (least : ℕ) → least ≤ time → Rise least time queue.old.items → OnOk result (Rise least (time + 1) queue.new.items) }
 {
     if !deliveries.is_empty() {
         queue.push_back(Batch { time, deliveries })?;

@@ -1,24 +1,25 @@
 //! The machines on a wire. Each makes a tick by its parts, and then runs on by itself, ahead of the others, until
 //! something may happen in it from outside.
-ghost use Rattle.std.specs.Prelude.{◌≡◌, ℕ, Vec, ◌≤◌, ◌<◌, ◌+◌, ◌++◌, ◌∷◌, [], IfOk, OnOk, OnErr, false, length, drop, get_or, true};
+ghost use Rattle.std.specs.Prelude.{◌≡◌, ℕ, Vec, ◌≤◌, ◌<◌, ◌++◌, IfOk, OnOk, OnErr, length, get_or, true};
 ghost use Rattle.std.specs.Global.{Global};
 ghost use Rattle.aegis_limits.specs.Limits.{most_ticks};
 ghost use Rattle.board_model.specs.Shown.{Shown};
-ghost use Rattle.board_model.specs.Showing.{world_of};
 ghost use Rattle.board_model.specs.Ticks.{IsFresh};
 ghost use Rattle.external_event.specs.EventValue.{EventValue};
 ghost use Rattle.external_event.specs.Order.{are_in_order};
 ghost use Rattle.wire_model.specs.Limits.{most_delay, most_machines, most_wire_ticks};
-ghost use Rattle.wire_model.specs.Wire.{Wire, joined, sent_between, wired, world_on_wire};
-ghost use Rattle.wire_net.specs.Course.{AllCameSoFar, AllShow, CameSoFar, IsWireOf};
-ghost use Rattle.wire_net.specs.Delivery.{deliveries_of};
-ghost use Rattle.wire_net.specs.Station.{AreCounted, IsAt, IsThrough, Happened, Partly};
+ghost use Rattle.wire_model.specs.Wire.{Wire};
+ghost use Rattle.wire_net.specs.Course.{AllCameSoFar, AllShow, IsWireOf};
+ghost use Rattle.wire_net.specs.Sending.{sent_by, sent_by_all};
+ghost use Rattle.wire_net.specs.Station.{AreCounted, IsAt, IsThrough, Partly};
+ghost use Rattle.wire_net.specs.Stations.{AreAt, AreAtStart, AreThrough, HaveHappened, NoneBefore};
 
 use crate::delivery::{Batch, Delivery, first_arrival, put, take_due};
 use crate::sending::{Route, send_new};
-use crate::station::{advance, due, run_on};
+use crate::station::{advance, run_on};
 use aegis_calls::Board;
 use aegis_limits::OutOfMemory;
+use aegis_tick::{Agenda, law_agenda};
 use external_event::Event;
 use run_model::law_time;
 use std::alloc::Global;
@@ -32,7 +33,7 @@ pub(crate) struct Station<'a> {
     /// The tick that it makes next.
     pub time: u32,
     /// The events of its schedule that are to come.
-    pub coming: &'a [Event],
+    pub agenda: Agenda<'a>,
     /// How many packets each of its environments has put on the wire.
     pub sent: Vec<usize>,
 }
@@ -63,17 +64,14 @@ fn stations_of<'a>(
     schedules: &'a [Vec<Event>],
 ) -> Result<Vec<Station<'a>>, OutOfMemory>
     requires { length schedules.now ≡ length boards.now }
-    ensures count { IfOk result (λ stations. length stations.items ≡ length boards.now) }
-    ensures time { IfOk result (λ stations. (i : ℕ) (s : Station) → i < length boards.now → (get_or stations.items i s).time ≡ 0) }
-    ensures coming { IfOk result (λ stations. (i : ℕ) (s : Station) (v : Vec EventValue Global) → i < length boards.now → (get_or stations.items i s).coming.now ≡ (get_or schedules.now i v).items) }
-    ensures sent { IfOk result (λ stations. (i : ℕ) (s : Station) (b : Shown) → i < length boards.now → AreCounted (get_or boards.now i b) (get_or stations.items i s).sent.items) }
+    ensures { IfOk result (λ stations. AreAtStart boards.now schedules.now stations.items) }
 {
     let mut stations = Vec::new(alloc);
     for place in 0..boards.len() {
         let sent = sent_counts(alloc, &boards[place])?;
         stations.push(Station {
             time: 0,
-            coming: schedules[place].as_slice(),
+            agenda: Agenda::of(schedules[place].as_slice()),
             sent,
         })?;
     }
@@ -98,13 +96,12 @@ fn tick_one(
     requires here { IsAt station.old board.old }
     ensures through { OnOk result (IsThrough machine moment.time moment.until due_now.now board.old station.old board.new station.new) }
     ensures part { OnErr result (Partly machine moment.time moment.until due_now.now board.old station.old board.new) }
-    ensures out { OnOk result (out.new.items ≡ out.old.items ++ deliveries_of machine moment.arrival (sent_between (world_of board.old) (world_of board.new))) }
+    ensures out { OnOk result (out.new.items ≡ out.old.items ++ sent_by machine moment.arrival board.old board.new) }
 {
     if station.time > moment.time {
         return Ok(());
     }
-    let now = due(station.coming, moment.time);
-    station.coming = &station.coming[now.len()..];
+    let now = station.agenda.due(moment.time);
     advance(board, now, due_now, machine, moment.time)?;
     let route = Route {
         sender: machine,
@@ -112,7 +109,7 @@ fn tick_one(
     };
     send_new(alloc, out, route, board, &mut station.sent)?;
     let next = moment.time + 1;
-    station.time = next + run_on(board, station.coming, next, moment.until);
+    station.time = next + run_on(board, &station.agenda, next, moment.until);
     Ok(())
 }
 
@@ -130,11 +127,11 @@ fn tick_all(
     requires limit { moment.time < most_ticks }
     requires arrival { moment.arrival ≤ most_ticks }
     requires until { moment.until ≤ most_ticks }
-    requires later { (i : ℕ) (s : Station) → i < length boards.old → moment.time ≤ (get_or stations.old i s).time }
-    requires here { (i : ℕ) (b : Shown) (s : Station) → i < length boards.old → IsAt (get_or stations.old i s) (get_or boards.old i b) }
-    ensures through { OnOk result ((i : ℕ) (b : Shown) (s : Station) → i < length boards.old → IsThrough i moment.time moment.until due_now.now (get_or boards.old i b) (get_or stations.old i s) (get_or boards.new i b) (get_or stations.new i s)) }
-    ensures part { OnErr result ((i : ℕ) (b : Shown) (s : Station) → i < length boards.old → Happened i moment.time moment.until due_now.now (get_or boards.old i b) (get_or stations.old i s) (get_or boards.new i b)) }
-    ensures out { (b : Shown) → OnOk result (out.new.items ≡ out.old.items ++ joined (λ i. deliveries_of i moment.arrival (sent_between (world_of (get_or boards.old i b)) (world_of (get_or boards.new i b)))) (length boards.old)) }
+    requires later { NoneBefore moment.time stations.old }
+    requires here { AreAt stations.old boards.old }
+    ensures through { OnOk result (AreThrough moment.time moment.until due_now.now boards.old stations.old boards.new stations.new) }
+    ensures part { OnErr result (HaveHappened moment.time moment.until due_now.now boards.old stations.old boards.new) }
+    ensures out { (b : Shown) → OnOk result (out.new.items ≡ out.old.items ++ sent_by_all moment.arrival boards.old boards.new b) }
     ensures count { length boards.new ≡ length boards.old }
     ensures stations { length stations.new ≡ length stations.old }
 {
@@ -149,8 +146,8 @@ fn tick_all(
 /// The first tick that one of these machines makes next, or another where that is earlier.
 fn first_tick(stations: &[Station<'_>], until: u32) -> u32
     ensures most { result ≤ until }
-    ensures each { (i : ℕ) (s : Station) → i < length stations.now → result ≤ (get_or stations.now i s).time }
-    ensures least { (t : ℕ) → t ≤ until → ((i : ℕ) (s : Station) → i < length stations.now → t ≤ (get_or stations.now i s).time) → t ≤ result }
+    ensures each { NoneBefore result stations.now }
+    ensures least { (t : ℕ) → t ≤ until → NoneBefore t stations.now → t ≤ result }
 {
     let mut first = until;
     for station in stations {
@@ -182,6 +179,7 @@ pub fn wire(
     ensures part { OnErr result ((net : Wire) → IsWireOf boards.old schedules.now delay net → AllCameSoFar net ticks boards.new) }
     ensures count { length boards.new ≡ length boards.old }
 {
+    law_agenda();
     law_settled();
     law_tick();
     law_time();

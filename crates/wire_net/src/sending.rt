@@ -1,10 +1,9 @@
 //! What a machine puts on the wire.
-ghost use Rattle.std.specs.Prelude.{◌≡◌, ℕ, ◌≤◌, ◌<◌, ◌+◌, ◌++◌, ◌∷◌, [], IfOk, OnOk, length, drop, get_or, filter, if◌then◌else◌};
+ghost use Rattle.std.specs.Prelude.{◌≡◌, ◌≤◌, ◌<◌, ◌++◌, ◌∷◌, [], OnOk, length, get_or};
 ghost use Rattle.aegis_limits.specs.Limits.{most_ticks};
 ghost use Rattle.board_model.specs.Showing.{world_of};
-ghost use Rattle.external_event.specs.Packet.{is_packet};
-ghost use Rattle.wire_model.specs.Wire.{joined};
-ghost use Rattle.wire_net.specs.Delivery.{deliveries_of};
+ghost use Rattle.wire_net.specs.Sending.{all_sent_after, packets_sent, sent_after};
+ghost use Rattle.wire_net.specs.Station.{AreCounted};
 
 use crate::delivery::Delivery;
 use aegis_calls::Board;
@@ -30,7 +29,7 @@ fn send(
     bytes: &[u8],
 ) -> Result<(), OutOfMemory>
     requires { route.time ≤ most_ticks }
-    ensures { OnOk result (out.new.items ≡ out.old.items ++ deliveries_of route.sender route.time (filter is_packet (bytes.now ∷ []))) }
+    ensures { OnOk result (out.new.items ≡ out.old.items ++ packets_sent route (bytes.now ∷ [])) }
 {
     let bytes = Vec::from_slice(alloc, bytes)?;
     if let Some(packet) = PacketBytes::from_bytes(bytes) {
@@ -69,7 +68,7 @@ fn send_behind(
 ) -> Result<(), OutOfMemory>
     requires time { route.time ≤ most_ticks }
     requires env { env < (world_of board.now).count }
-    ensures { OnOk result (out.new.items ≡ out.old.items ++ deliveries_of route.sender route.time (filter is_packet (drop known ((world_of board.now).solos env).sent))) }
+    ensures { OnOk result (out.new.items ≡ out.old.items ++ packets_sent route (sent_after board.now env known)) }
 {
     for place in known..board.sent_count(env) {
         send(alloc, out, route, packet_at(board, env, place))?;
@@ -87,8 +86,8 @@ pub(crate) fn send_new(
 ) -> Result<(), OutOfMemory>
     requires time { route.time ≤ most_ticks }
     requires envs { length known.old ≡ (world_of board.now).count }
-    ensures sent { OnOk result (out.new.items ≡ out.old.items ++ deliveries_of route.sender route.time (filter is_packet (joined (λ e. drop (get_or known.old e 0) ((world_of board.now).solos e).sent) (world_of board.now).count))) }
-    ensures known { OnOk result ((e : ℕ) → e < length known.old → get_or known.new e 0 ≡ length ((world_of board.now).solos e).sent) }
+    ensures sent { OnOk result (out.new.items ≡ out.old.items ++ packets_sent route (all_sent_after board.now known.old)) }
+    ensures counted { OnOk result (AreCounted board.now known.new) }
     ensures envs { length known.new ≡ length known.old }
 {
     for env in 0..board.envs() {

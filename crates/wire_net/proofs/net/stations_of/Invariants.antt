@@ -12,6 +12,6 @@ abbrev pub invariant-loop-place : goal.invariant-loop-place
 invariant-loop-place l = record {
   count : length l.stations.items ≡ l.place;
   time : (i : ℕ) (s : Station) → i < l.place → (get_or l.stations.items i s).time ≡ 0;
-  coming : (i : ℕ) (s : Station) (v : Vec EventValue Global) → i < l.place → (get_or l.stations.items i s).coming.now ≡ (get_or l.schedules i v).items;
+  agenda : (i : ℕ) (s : Station) (v : Vec EventValue Global) → i < l.place → (get_or l.stations.items i s).agenda ≡ (get_or l.schedules i v).items;
   sent : (i : ℕ) (s : Station) (b : Shown) → i < l.place → AreCounted (get_or l.boards i b) (get_or l.stations.items i s).sent.items;
 }

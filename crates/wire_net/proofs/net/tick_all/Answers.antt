@@ -2,11 +2,11 @@
 use Rattle.std.proofs.Common.{◌∙◌, ◌≡◌, ap, subst, ◌++◌, ◌<◌, ℕ, arith, length, length-set, get_or}
 use Rattle.std.proofs.lemmas.List.{get_or_default}
 use Rattle.board_model.specs.Shown.{Shown}
-use Rattle.wire_model.specs.Wire.{joined}
 use Rattle.wire_net.specs.declared.net.Station.{Station}
+use Rattle.wire_net.specs.Sending.{sent_by_first}
 use Rattle.wire_net.specs.Station.{IsThrough, Partly}
 use Rattle.wire_net.proofs.Happening.{on_err}
-use Rattle.wire_net.proofs.Ticking.{done_more, left_more, out_more, refused_each, sends}
+use Rattle.wire_net.proofs.Ticking.{done_more, left_more, out_more, refused_each}
 use Rattle.wire_net.proofs.net.tick_all.Goals as goal
 
 pub returns-in_err-tick_one-clause-part : goal.returns-in_err-tick_one-clause-part
@@ -63,4 +63,4 @@ loop-place-preserved c =
 pub returns-clause-out : goal.returns-clause-out
 returns-clause-out c = λ b.
     let whole : c.loop-place.place ≡ length c.args.boards.now = omega (arith, c.loop-place-test.false, c.loop-place.auto.place-end) in
-    c.loop-place.invariant.out b ∙ ap (λ (n : ℕ). c.args.out.now.items ++ joined (sends c.args.moment.arrival c.args.boards.now c.loop-place.boards b) n) whole
+    c.loop-place.invariant.out b ∙ ap (λ (n : ℕ). c.args.out.now.items ++ sent_by_first n c.args.moment.arrival c.args.boards.now c.loop-place.boards b) whole

@@ -1,9 +1,7 @@
 -- The machines of lower numbers are through with the tick, and the others are as they were.
 use Rattle.std.proofs.Common.{◌≡◌, ◌≤◌, ◌<◌, ◌++◌, ℕ, get_or, length}
 use Rattle.board_model.specs.Shown.{Shown}
-use Rattle.board_model.specs.Showing.{world_of}
-use Rattle.wire_model.specs.Wire.{joined, sent_between}
-use Rattle.wire_net.specs.Delivery.{deliveries_of}
+use Rattle.wire_net.specs.Sending.{sent_by_first}
 use Rattle.wire_net.specs.Station.{IsThrough}
 use Rattle.wire_net.specs.declared.net.Station.{Station}
 use Rattle.wire_net.proofs.net.tick_all.Given as goal
@@ -15,5 +13,5 @@ invariant-loop-place l = record {
   done : (i : ℕ) (b : Shown) (s : Station) → i < l.place → IsThrough i l.moment.time l.moment.until l.due_now (get_or l.fn.boards i b) (get_or l.fn.stations i s) (get_or l.boards i b) (get_or l.stations i s);
   left : (i : ℕ) (b : Shown) → l.place ≤ i → get_or l.boards i b ≡ get_or l.fn.boards i b;
   left_stations : (i : ℕ) (s : Station) → l.place ≤ i → get_or l.stations i s ≡ get_or l.fn.stations i s;
-  out : (b : Shown) → l.out.items ≡ l.fn.out.items ++ joined (λ (i : ℕ). deliveries_of i l.moment.arrival (sent_between (world_of (get_or l.fn.boards i b)) (world_of (get_or l.boards i b)))) l.place;
+  out : (b : Shown) → l.out.items ≡ l.fn.out.items ++ sent_by_first l.place l.moment.arrival l.fn.boards l.boards b;
 }

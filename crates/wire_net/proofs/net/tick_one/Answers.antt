@@ -1,14 +1,14 @@
 -- The tick leaves the environments that are counted, and what they sent since then is sent; in the silent ticks behind it
 -- nobody sends more.
 use Rattle.std.proofs.Common.{◌∙◌, ◌≡◌, refl, ap, sym, subst, arith, ◌+◌, ◌-◌, ◌≤◌, ◌++◌, List, ℕ, length, drop, get_or, ◌<◌, inl, inr}
-use Rattle.std.proofs.lemmas.List.{append-nil, take_rest, with_items_is}
+use Rattle.std.proofs.lemmas.List.{append-nil, with_items_is}
 use Rattle.external_event.specs.EventValue.{EventValue}
 use Rattle.board_model.specs.Showing.{world_of}
 use Rattle.world_model.specs.World.{World}
-use Rattle.aegis_tick.specs.Course.{next_time_of, occurrences}
+use Rattle.aegis_tick.specs.Agenda.{next_time_of}
 use Rattle.wire_model.specs.Wire.{after_tick}
-use Rattle.wire_net.specs.Delivery.{arriving, deliveries_of}
-use Rattle.wire_net.specs.Station.{AreSilent}
+use Rattle.wire_net.specs.Delivery.{deliveries_of}
+use Rattle.wire_net.specs.Station.{AreCounted, AreSilent, happening}
 use Rattle.wire_net.proofs.Ahead.{counted_behind, none_are_silent, none_between, sent_by_then, steady_behind, steady_itself}
 use Rattle.wire_net.proofs.Happening.{on_err}
 use Rattle.wire_net.proofs.Ticking.{same_count, sent_since}
@@ -22,7 +22,7 @@ returns-then-station-moment-clause-out c =
 
 pub send_new-requires-clause-envs : goal.send_new-requires-clause-envs
 send_new-requires-clause-envs c =
-    let happens = occurrences c.due-now.result.now ++ arriving c.args.machine c.args.due_now.now in
+    let happens = happening c.args.machine c.due-now.result.now c.args.due_now.now in
     ap length c.deref_mut.ensures.value ∙ c.requires.here.counted.count
     ∙ sym (ap (λ (w : World). w.count) c.in_ok-advance.ensures.world ∙ same_count happens (world_of c.args.board.now))
 
@@ -32,7 +32,7 @@ returns-in_err-send_new-clause-part c =
     let due = c.args.due_now.now in
     let old = world_of c.args.board.now in
     let mid = world_of c.advance.new.board in
-    let is = c.in_ok-advance.ensures.world ∙ ap (λ (events : List EventValue). after_tick (occurrences events ++ arriving c.args.machine due) old) c.due-now.ensures in
+    let is = c.in_ok-advance.ensures.world ∙ ap (λ (events : List EventValue). after_tick (happening c.args.machine events due) old) c.due-now.ensures.now in
     let later = c.requires.later in
     let not = c.if-station-moment.false in
     on_err c.from_residual-in_err-send_new.result
@@ -47,21 +47,17 @@ returns-in_err-send_new-clause-part c =
 pub returns-clause-through : goal.returns-clause-through
 returns-clause-through c =
     let time = c.args.moment.time in
-    let coming = c.args.station.now.coming.now in
-    let now = c.due-now.result.now in
+    let coming = c.args.station.now.agenda in
     let due = c.args.due_now.now in
     let ticks = c.run_on.result in
     let board = c.advance.new.board in
     let old = world_of c.args.board.now in
     let mid = world_of board in
     let new = world_of c.run_on.new.board in
-    let happens = occurrences now ++ arriving c.args.machine due in
     let later = c.requires.later in
     let not = c.if-station-moment.false in
-    let is = c.in_ok-advance.ensures.world ∙ ap (λ (events : List EventValue). after_tick (occurrences events ++ arriving c.args.machine due) old) c.due-now.ensures in
-    let rest = take_rest coming (length now) ∙ ap (λ (events : List EventValue). drop (length events) coming) c.due-now.ensures in
-    let same : mid.count ≡ old.count = ap (λ (w : World). w.count) c.in_ok-advance.ensures.world ∙ same_count happens old in
-    let long : length c.deref_mut.result.now ≡ old.count = ap length c.deref_mut.ensures.value ∙ c.requires.here.counted.count in
+    let is = c.in_ok-advance.ensures.world ∙ ap (λ (events : List EventValue). after_tick (happening c.args.machine events due) old) c.due-now.ensures.now in
+    let rest = c.due-now.ensures.left ∙ ap (λ (events : List EventValue). drop (length events) coming) c.due-now.ensures.now in
     let known = with_items_is c.args.station.now.sent c.send_new.new.known (c.send_new.ensures.envs ∙ ap length c.deref_mut.ensures.value ∙ sym c.args.station.now.sent.ok.0) in
     let steady = steady_behind (time + 1) ticks mid new c.run_on.ensures.silent in
     inl (record {
@@ -73,13 +69,10 @@ returns-clause-through c =
         before_arrival = c.run_on.ensures.before_arrival;
       };
       next = refl;
-      coming = rest;
+      agenda = rest;
       here = record {
         between = c.run_on.ensures.between;
-        counted = counted_behind board c.run_on.new.board _ steady (record {
-          count = ap length known ∙ c.send_new.ensures.envs ∙ long ∙ sym same;
-          each = λ e within. ap (λ (counts : List ℕ). get_or counts e 0) known ∙ c.in_ok-send_new.ensures.known e (subst (λ (n : ℕ). e < n) (same ∙ sym long) within);
-        });
+        counted = counted_behind board c.run_on.new.board _ steady (subst (AreCounted board) (sym known) c.in_ok-send_new.ensures.counted);
       };
     })
 
@@ -88,7 +81,7 @@ returns-clause-out c =
     let old = world_of c.args.board.now in
     let mid = world_of c.advance.new.board in
     let new = world_of c.run_on.new.board in
-    let happens = occurrences c.due-now.result.now ++ arriving c.args.machine c.args.due_now.now in
+    let happens = happening c.args.machine c.due-now.result.now c.args.due_now.now in
     let same : mid.count ≡ old.count = ap (λ (w : World). w.count) c.in_ok-advance.ensures.world ∙ same_count happens old in
     let steady = steady_behind (c.args.moment.time + 1) c.run_on.result mid new c.run_on.ensures.silent in
     c.in_ok-send_new.ensures.sent

@@ -1,20 +1,39 @@
 -- Each turn of the loop is a tick of all machines that aren't ahead of it.
-use Rattle.std.proofs.Common.{◌∙◌, ◌≡◌, ap, sym, subst, ◌+◌, ◌<◌, ◌≤◌, ◌++◌, ℕ, List, [], arith, length, get_or}
+use Rattle.std.proofs.Common.{◌∙◌, ◌≡◌, ap, refl, sym, subst, ◌+◌, ◌<◌, ◌≤◌, ◌++◌, ℕ, List, [], arith, length}
 use Rattle.std.specs.Vec.{with_items}
 use Rattle.std.proofs.lemmas.List.{with_items_is}
-use Rattle.wire_model.specs.Wire.{Wire, joined}
+use Rattle.wire_model.specs.Wire.{Wire}
 use Rattle.wire_net.specs.Course.{IsWireOf}
-use Rattle.wire_net.specs.Delivery.{due_at, first_arrival}
+use Rattle.wire_net.specs.Delivery.{due_at, first_arrival, rise_between}
+use Rattle.wire_net.specs.Sending.{sent_by_all}
+use Rattle.wire_net.specs.Stations.{NoneBefore}
 use Rattle.wire_net.specs.declared.delivery.Delivery.{Delivery}
-use Rattle.wire_net.specs.declared.net.Station.{Station}
 use Rattle.wire_net.proofs.Happening.{on_err}
 use Rattle.wire_net.proofs.Machine.{IsUntil}
-use Rattle.wire_net.proofs.Progress.{AllAhead, AllPlaced, AreMany, all_ahead_from, all_ahead_next, all_came_first, all_came_to, all_came_when, all_placed_from, all_placed_next, all_show, due_next}
+use Rattle.wire_net.proofs.Progress.{AllAhead, AllPlaced, AreMany, all_ahead_first, all_ahead_from, all_ahead_next, all_came_first, all_came_to, all_came_when, all_placed_first, all_placed_from, all_placed_next, all_show, due_next}
 use Rattle.wire_net.proofs.Queue.{first_is_later, first_is_within, none_arrives, rises_earlier, rises_from_first, wider}
-use Rattle.wire_net.proofs.Ticking.{sends}
-use Rattle.wire_net.proofs.Wiring.{Laws, witness}
+use Rattle.wire_net.proofs.Wiring.{Laws, none_at_first, witness}
 use Rattle.wire_net.proofs.net.wire.Goals as goal
 use Rattle.wire_net.proofs.net.wire.Goals.{After-deref, After-first_tick-time, After-put}
+
+-- ---- at the start
+
+pub loop-time-init : goal.loop-time-init
+loop-time-init c =
+    let boards = c.args.boards.now in
+    let events = c.args.schedules.now in
+    let stations = c.in_ok-stations.stations.items in
+    let start = c.in_ok-stations.ensures in
+    let empty = c.new-under_way.ensures.items in
+    record {
+      count = refl;
+      stations = start.count;
+      within = omega arith;
+      placed = all_placed_first c.args.ticks events boards stations c.requires.fresh c.requires.order start;
+      rise = ap (rise_between 0 (0 + c.args.delay)) empty;
+      ahead = λ net is. all_ahead_first events c.args.delay net boards stations is start;
+      due = λ net is s from before. ap (due_at s) empty ∙ sym (none_at_first net s (omega (arith, is.delay, before)));
+    }
 
 -- ---- before the tick of all machines
 
@@ -25,6 +44,7 @@ laws c = record {
   happens = c.law_tick.ensures.happens;
   ticks = c.law_tick.ensures.ticks;
   timed = c.law_time.ensures;
+  agendas = c.law_agenda.ensures;
 }
 
 many : (c : After-deref) → AreMany (length c.args.boards.now) c.args.schedules.now c.loop-time.boards c.deref_mut.result.now
@@ -77,7 +97,7 @@ through_many c = record {
 placed_behind : (c : After-put) → AllPlaced c.args.schedules.now (c.loop-time.time + 1) c.args.ticks c.tick_all.new.boards c.tick_all.new.stations
 placed_behind c =
     let at = (goal.at.After-put c).After-deref in
-    all_placed_next (length c.args.boards.now) c.loop-time.time c.first_arrival.result c.args.ticks c.args.schedules.now c.loop-time.boards c.deref_mut.result.now c.deref.result.now
+    all_placed_next c.law_agenda.ensures (length c.args.boards.now) c.loop-time.time c.first_arrival.result c.args.ticks c.args.schedules.now c.loop-time.boards c.deref_mut.result.now c.deref.result.now
     c.tick_all.new.boards c.tick_all.new.stations (many at) (through_many c) (times at) (placed at) c.in_ok-tick_all.ensures.through
 
 ahead_behind : (c : After-put) (net : Wire) → IsWireOf c.args.boards.now c.args.schedules.now c.args.delay net → AllAhead net (c.loop-time.time + 1) c.tick_all.new.boards c.tick_all.new.stations
@@ -92,17 +112,20 @@ ahead_behind c net is =
 
 pub returns-in_err-stations-clause-part : goal.returns-in_err-stations-clause-part
 returns-in_err-stations-clause-part c =
-    let now : Laws = record { worlds = c.law_settled.ensures.worlds; frames = c.law_settled.ensures.frames; happens = c.law_tick.ensures.happens; ticks = c.law_tick.ensures.ticks; timed = c.law_time.ensures } in
+    let now : Laws = record { worlds = c.law_settled.ensures.worlds; frames = c.law_settled.ensures.frames; happens = c.law_tick.ensures.happens; ticks = c.law_tick.ensures.ticks; timed = c.law_time.ensures; agendas = c.law_agenda.ensures } in
     on_err c.from_residual.result
     (λ net is. all_came_first now c.args.boards.now c.args.schedules.now c.args.delay net is c.requires.fresh c.requires.delay_least c.args.ticks)
 
 pub tick_all-requires-clause-later : goal.tick_all-requires-clause-later
 tick_all-requires-clause-later c = λ i s within.
     let at = (goal.at.tick_all-requires-clause-later c).After-deref in
-    let b = witness c.loop-time.boards i within in
-    let count = c.loop-time.invariant.count in
-    let v = witness c.args.schedules.now i (omega (arith, c.requires.schedules, within, count)) in
-    (placed at i b s v within).later
+    let are = many at in
+    let boards = are.boards_are in
+    let stations = are.stations_are in
+    let inside : i < length c.loop-time.boards = omega (arith, boards, stations, within) in
+    let b = witness c.loop-time.boards i inside in
+    let v = witness c.args.schedules.now i (omega (arith, c.requires.schedules, boards, inside)) in
+    (placed at i b s v inside).later
 
 pub tick_all-requires-clause-here : goal.tick_all-requires-clause-here
 tick_all-requires-clause-here c = λ i b s within.
@@ -123,7 +146,7 @@ returns-in_err-tick_all-clause-part c =
 
 pub returns-clause-world : goal.returns-clause-world
 returns-clause-world c =
-    let now : Laws = record { worlds = c.law_settled.ensures.worlds; frames = c.law_settled.ensures.frames; happens = c.law_tick.ensures.happens; ticks = c.law_tick.ensures.ticks; timed = c.law_time.ensures } in
+    let now : Laws = record { worlds = c.law_settled.ensures.worlds; frames = c.law_settled.ensures.frames; happens = c.law_tick.ensures.happens; ticks = c.law_tick.ensures.ticks; timed = c.law_time.ensures; agendas = c.law_agenda.ensures } in
     let loop = c.loop-time.invariant in
     λ net is.
     all_show now c.args.boards.now c.args.schedules.now c.args.delay net is c.requires.fresh c.requires.delay_least c.loop-time.time c.args.ticks c.loop-time.boards c.loop-time.stations.items
@@ -145,10 +168,9 @@ stations_behind c =
     with_items_is c.loop-time.stations c.tick_all.new.stations (c.tick_all.ensures.stations ∙ ap length c.deref_mut.ensures.value ∙ sym c.loop-time.stations.ok.0)
 
 -- it is no later than any of theirs, and behind this one
-each_later : (c : After-first_tick-time) (i : ℕ) (s : Station) → i < length c.tick_all.new.stations → c.first_tick-time.result ≤ (get_or c.tick_all.new.stations i s).time
+each_later : (c : After-first_tick-time) → NoneBefore c.first_tick-time.result c.tick_all.new.stations
 each_later c =
-    subst (λ (xs : List Station). (i : ℕ) (s : Station) → i < length xs → c.first_tick-time.result ≤ (get_or xs i s).time)
-    (c.deref-in-loop-time.ensures.value ∙ stations_behind c) c.first_tick-time.ensures.each
+    subst (NoneBefore c.first_tick-time.result) (c.deref-in-loop-time.ensures.value ∙ stations_behind c) c.first_tick-time.ensures.each
 
 later_than : (c : After-first_tick-time) → c.loop-time.time + 1 ≤ c.first_tick-time.result
 later_than c =
@@ -159,13 +181,13 @@ later_than c =
     let boards = are.boards_are in
     let stations = are.stations_are in
     let until = (times before).behind in
-    let each : (i : ℕ) (s : Station) → i < length c.tick_all.new.stations → t + 1 ≤ (get_or c.tick_all.new.stations i s).time =
+    let each : NoneBefore (t + 1) c.tick_all.new.stations =
     λ i s within.
     let b = witness c.tick_all.new.boards i (omega (arith, boards, stations, within)) in
     let v = witness c.args.schedules.now i (omega (arith, c.requires.schedules, stations, within)) in
     (placed_behind at i b s v (omega (arith, boards, stations, within))).later in
     c.first_tick-time.ensures.least (t + 1) (omega (arith, until))
-    (subst (λ (xs : List Station). (i : ℕ) (s : Station) → i < length xs → t + 1 ≤ (get_or xs i s).time) (sym (c.deref-in-loop-time.ensures.value ∙ stations_behind c)) each)
+    (subst (NoneBefore (t + 1)) (sym (c.deref-in-loop-time.ensures.value ∙ stations_behind c)) each)
 
 pub loop-time-smaller : goal.loop-time-smaller
 loop-time-smaller c =
@@ -210,7 +232,6 @@ loop-time-preserved c =
           (many before) (times before) soon (placed before) (ahead before net is) (c.loop-time.invariant.due net is) (c.deref.ensures.value ∙ c.take_due-due_now.ensures.due) c.take_due-due_now.ensures.rest (none before)
           boards stations are c.in_ok-tick_all.ensures.through
           next c.tick_all.new.out.items put b later (each_later last)
-          (c.in_ok-tick_all.ensures.out b ∙ ap (λ (xs : List Delivery). xs ++ joined (sends arrival c.loop-time.boards boards b) (length c.loop-time.boards)) c.new-out.ensures.items
-          ∙ ap (joined (sends arrival c.loop-time.boards boards b)) c.loop-time.invariant.count)
+          (c.in_ok-tick_all.ensures.out b ∙ ap (λ (xs : List Delivery). xs ++ sent_by_all arrival c.loop-time.boards boards b) c.new-out.ensures.items)
           c.in_ok-put.ensures.others (c.in_ok-put.ensures.last (t + 1) rises) (c.in_ok-put.ensures.rise (t + 1) (omega (arith, c.requires.delay_least)) rises);
     }

@@ -1,12 +1,9 @@
 -- What was sent so far and what is left is all that is to be sent.
-use Rattle.std.proofs.Common.{◌≡◌, ◌++◌, drop}
-use Rattle.std.specs.Prelude.{filter}
-use Rattle.external_event.specs.Packet.{is_packet}
-use Rattle.board_model.specs.Showing.{world_of}
-use Rattle.wire_net.specs.Delivery.{deliveries_of}
+use Rattle.std.proofs.Common.{◌≡◌, ◌++◌}
+use Rattle.wire_net.specs.Sending.{packets_sent, sent_after}
 use Rattle.wire_net.proofs.sending.send_behind.Given as goal
 
 abbrev pub invariant-loop-place : goal.invariant-loop-place
 invariant-loop-place l =
-    l.out.items ++ deliveries_of l.route.sender l.route.time (filter is_packet (drop l.place ((world_of l.board).solos l.env).sent))
-    ≡ l.fn.out.items ++ deliveries_of l.route.sender l.route.time (filter is_packet (drop l.known ((world_of l.board).solos l.env).sent))
+    l.out.items ++ packets_sent l.route (sent_after l.board l.env l.place)
+    ≡ l.fn.out.items ++ packets_sent l.route (sent_after l.board l.env l.known)

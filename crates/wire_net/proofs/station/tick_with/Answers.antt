@@ -5,7 +5,8 @@ use Rattle.board_model.specs.Showing.{world_of}
 use Rattle.world_model.specs.Book.{is_idle_book}
 use Rattle.world_model.specs.Tick.{tick_step}
 use Rattle.world_model.specs.World.{World}
-use Rattle.aegis_tick.specs.Course.{occurrences, world_with}
+use Rattle.aegis_tick.specs.Agenda.{occurrences}
+use Rattle.aegis_tick.specs.Course.{world_with}
 use Rattle.wire_net.specs.Delivery.{arriving}
 use Rattle.wire_net.proofs.Happening.{in_two, on_err, part_of_first, part_of_second, part_whole, still_busy}
 use Rattle.wire_net.proofs.station.tick_with.Goals as goal
