@@ -1,5 +1,5 @@
 -- That no fault is found is that the rules are kept.
-use Rattle.std.proofs.Common.{refl, sym, ◌∙◌, ap, subst, ◌≡◌, ℕ, List, [], ◌∷◌, ◌++◌, Bool, true, false, ◌&&◌, Option, None, Some}
+use Rattle.std.proofs.Common.{refl, sym, ◌∙◌, ap, ◌≡◌, ℕ, List, [], ◌∷◌, ◌++◌, Bool, true, false, ◌&&◌, Option, None, Some}
 use Rattle.std.specs.Prelude.{if◌then◌else◌}
 use Rattle.std.specs.Option.{option_or}
 use Rattle.std.proofs.lemmas.Bool.{and_from, and_parts}
@@ -7,11 +7,10 @@ use Rattle.std.proofs.lemmas.List.{append-nil}
 use Rattle.kernel_journal.specs.declared.row.Row.{Row}
 use Rattle.ledger_audit.specs.LedgerState.{LedgerState, after_row, first_state, state_after}
 use Rattle.ledger_audit.specs.RowRules.{are_fit, is_end, is_fit}
-use Rattle.ledger_text.specs.LedgerText.{LedgerValue}
 use Rattle.ledger_text.specs.PlanText.{PlanValue}
-use Rattle.ledger_audit.specs.declared.answer.AuditAnswer.TheVariants.{Clean, Broken}
+use Rattle.ledger_audit.specs.declared.answer.AuditAnswer.TheVariants.{Clean}
 use Rattle.ledger_audit.specs.Answer.{answer_by, audit_of, end_line, first_fault, first_unfit, first_wrong_sum, rows_of, wrong_end}
-use Rattle.ledger_audit.specs.Laws.{CleanKeepsRules, KeepsRules, KeptIsClean, keep_plan}
+use Rattle.ledger_audit.specs.Laws.{CleanKeepsRules, KeptIsClean, keep_plan}
 use Rattle.ledger_audit.specs.StrideRule.{gifts_with, keeps_plan, no_gifts}
 
 -- a test that stops at a fault

@@ -2,7 +2,7 @@
 use Rattle.std.proofs.Common.{arith, refl, sym, ◌∙◌, ap, subst, ◌≡◌, ◌≤◌, ◌+◌, ℕ, suc, List, [], ◌∷◌, drop, Bool, true, false, ◌&&◌, All, length, Option, None, Some}
 use Rattle.std.specs.Prelude.{if◌then◌else◌, nat_lt, slice_index}
 use Rattle.std.specs.Option.{option_or}
-use Rattle.std.proofs.lemmas.Bool.{and_parts, and_right, lt-ltb}
+use Rattle.std.proofs.lemmas.Bool.{and_parts, lt-ltb}
 use Rattle.std.proofs.lemmas.List.{length-drop}
 use Rattle.world_model.specs.SlotCalls.{holds}
 use Rattle.kernel_journal.specs.declared.row.Row.{Row}

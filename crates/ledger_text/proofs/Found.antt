@@ -1,5 +1,5 @@
 -- What is found in a list passes the test, and whatever all elements pass.
-use Rattle.std.proofs.Common.{refl, subst, ◌≡◌, List, [], ◌∷◌, Bool, true, false, Option, None, Some}
+use Rattle.std.proofs.Common.{refl, subst, ◌≡◌, List, [], ◌∷◌, Bool, true, false, Some}
 use Rattle.std.specs.Prelude.{if◌then◌else◌}
 use Rattle.std.specs.List.{find, list_all}
 use Rattle.std.proofs.lemmas.Bool.{and_parts}

@@ -1,6 +1,6 @@
 -- The numbers of a world's slots, runner, excess and backups, and of its rows, are within their limits.
-use Rattle.std.proofs.Common.{arith, ◌<◌, ◌≤◌, ◌+◌, ℕ, zero, suc, List, [], ◌∷◌, ◌++◌, Bool, take, drop, Option, None, Some}
-use Rattle.std.specs.Prelude.{◌==◌, filter, min, nat_lt, not, if◌then◌else◌}
+use Rattle.std.proofs.Common.{arith, refl, ◌<◌, ◌≤◌, ◌+◌, ℕ, zero, suc, List, [], ◌∷◌, ◌++◌, Bool, take, drop, Option, None, Some}
+use Rattle.std.specs.Prelude.{◌==◌, filter, min, nat_lt, if◌then◌else◌}
 use Rattle.std.specs.List.{AllByRecursion}
 use Rattle.std.specs.Option.{option_map}
 use Rattle.std.proofs.lemmas.Bool.{and_parts, cond_both, ltb-true}
@@ -109,8 +109,9 @@ set_each P n x f here each i = cond_both (i == n) x (f i) P (λ is. here) (λ ot
 
 -- slots
 pub slot_small : (n t k : ℕ) (hold : Option Hold) → n ≤ most_environments → k < most_slots → IsHoldBelow n hold → IsSmall (slot_row t k hold)
-slot_small n t k None few place below = (omega (arith, place), tt)
-slot_small n t k (Some hold) few place (owner, holder) = (omega (arith, place), (omega (arith, few, owner), omega (arith, few, holder)))
+slot_small n t k None few place below = λ at. record { numbers = (at, (omega (arith, place), (tt, (tt, tt)))); paired = refl }
+slot_small n t k (Some hold) few place (owner, holder) =
+    λ at. record { numbers = (at, (omega (arith, place), (omega (arith, few, owner), (omega (arith, few, holder), tt)))); paired = refl }
 
 pub dropped_below : (n e : ℕ) (hold : Option Hold) → IsHoldBelow n hold → IsHoldBelow n (dropped e hold)
 dropped_below n e None below = tt
@@ -142,7 +143,7 @@ asked_small count deadline pending soon =
 
 asks_bounded : (t : ℕ) (w : World) (e : ℕ) (pending : Option Pending) → IsHeld t w.count (core w.book) → e < w.count → IsPendingSmall pending → Keeps t w.count (asks e pending w)
 asks_bounded t w e None held there small = record { held = held; rows = tt }
-asks_bounded t w e (Some p) held there (many, until) = record { held = held; rows = ((omega (arith, there, held.few), many, until), tt) }
+asks_bounded t w e (Some p) held there (many, until) = record { held = held; rows = (λ at. record { numbers = (at, (omega (arith, there, held.few), (many, (until, tt)))); paired = refl }, tt) }
 
 pub revokes_bounded : (t : ℕ) (w : World) (e count deadline : ℕ) → IsHeld t w.count (core w.book) → deadline ≤ most_number → Keeps t w.count (revokes e count deadline w)
 revokes_bounded t w e count deadline held soon =

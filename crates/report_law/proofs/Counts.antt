@@ -10,8 +10,9 @@ use Rattle.world_model.specs.declared.slot.Phase.{Phase}
 use Rattle.world_model.specs.declared.slot.Phase.TheVariants as phase
 use Rattle.world_model.specs.SlotCalls.{holds, in_grace}
 use Rattle.run_model.specs.Excess.{is_over_of, is_pay_of, is_run_of}
-use Rattle.ledger_rules.specs.LedgerState.{LedgerState, after_row, excess_in, first_state, is_over_by, is_pay_by, is_run_by, limit_by, limit_in, more_if, state_from, time_of}
-use Rattle.ledger_rules.specs.RowRules.{are_fit, are_passed, is_by_limit, is_fit, is_fit_by_kind, is_gift, is_in_time, is_judged, is_next, is_number, is_own_row, is_runners}
+use Rattle.kernel_journal.specs.RowTable.{time_of}
+use Rattle.ledger_audit.specs.LedgerState.{LedgerState, after_row, excess_in, first_state, is_over_by, is_pay_by, is_run_by, limit_by, limit_in, more_if, state_from}
+use Rattle.ledger_audit.specs.RowRules.{are_fit, are_passed, is_by_limit, is_fit, is_fit_by_kind, is_gift, is_in_time, is_judged, is_next, is_number, is_own_row, is_runners}
 
 -- how many slices have begun at most
 abbrev pub started : Option ℕ → ℕ → ℕ → ℕ
@@ -193,12 +194,7 @@ module _ (q end : ℕ) (s : LedgerState) (some : 1 ≤ q) (c : IsCounted end s) 
       stopped e (row.Stop t slot e) timely (and_parts (is_number e s.runner) (slot == s.cursor) fits).0 (after_row (row.Stop t slot e) s) refl refl refl refl refl refl refl refl
   by_kind (row.Dead t slot e) rows timely fits =
       stopped e (row.Dead t slot e) timely (runs_it s slot e _ fits) (after_row (row.Dead t slot e) s) refl refl refl refl refl refl refl refl
-  by_kind (row.Asked t e outstanding deadline) rows timely fits =
-      still (row.Asked t e outstanding deadline) false timely (λ (is : false ≡ true). cc) (after_row (row.Asked t e outstanding deadline) s) refl refl refl refl refl refl refl refl
-  by_kind (row.Take t e page backup) rows timely fits =
-      still (row.Take t e page backup) false timely (λ (is : false ≡ true). cc) (after_row (row.Take t e page backup) s) refl refl refl refl refl refl refl refl
-  by_kind (row.Unclaimed t size) rows timely fits =
-      still (row.Unclaimed t size) false timely (λ (is : false ≡ true). cc) (after_row (row.Unclaimed t size) s) refl refl refl refl refl refl refl refl
+  by_kind r rows timely fits = still r false timely (λ (is : false ≡ true). cc) (after_row r s) refl refl refl refl refl refl refl refl
 
 pub record AreCounted (end : ℕ) (s : LedgerState) (rows : List Row) : Type 0 where
   pub state : IsCounted end (state_from s rows)

@@ -1,7 +1,7 @@
 -- A text is cut into the lines of which it was made, and a line into its words.
 use Rattle.std.proofs.Common.{arith, refl, ◌∙◌, ap, ◌≡◌, ◌-◌, ℕ, zero, suc, List, [], ◌∷◌, ◌++◌, append_assoc, length, length-append, Bool, true, false, take, drop}
 use Rattle.std.specs.Prelude.{◌==◌, nat_eq, nat_le, not, codes}
-use Rattle.std.specs.List.{AllByRecursion, ends_with, flat_map, list_all, slice_split}
+use Rattle.std.specs.List.{AllByRecursion, ends_with, flat_map, list_all, position_or_len, slice_split}
 use Rattle.std.specs.Cmp.Lexicographic.{pointwise}
 use Rattle.std.proofs.Math.Seq.{drop-append_seam, take-append_seam}
 use Rattle.std.proofs.lemmas.Bool.{and_from, and_left, and_parts, cond-true, cond-false, leb-true, ne_eqb, not_from_false}
@@ -9,6 +9,7 @@ use Rattle.std.proofs.lemmas.List.{append-nil}
 use Rattle.std.proofs.lemmas.List.Folds.{list_all-append}
 use Rattle.line_text.specs.Lines.{pieces_of, without_end}
 use Rattle.line_text.specs.WrittenLine.{line, spaced}
+use Rattle.ledger_text.specs.LineKinds.{first_word}
 use Rattle.ledger_text.specs.Words.{is_space, spaced_words}
 use Rattle.report_law.proofs.Bytes.{AtLeast, both, one}
 
@@ -74,6 +75,19 @@ pub words_cut : (word : List ℕ) (words : List (List ℕ)) → AtLeast 33 word 
 words_cut word [] first rest = ap spaced_words (append-nil word) ∙ last_word word first
 words_cut word (next ∷ words) first (second, rest) =
     next_word word (next ++ flat_map spaced words) first ∙ ap (λ (ws : List (List ℕ)). word ∷ ws) (words_cut next words second rest)
+
+plain_length : (word : List ℕ) (words : List (List ℕ)) → AtLeast 33 word → position_or_len is_space (word ++ flat_map spaced words) ≡ length word
+plain_length [] [] are = refl
+plain_length [] (next ∷ words) are = refl
+plain_length (b ∷ bs) words are =
+    let parts = and_parts (nat_le 33 b) (list_all (nat_le 33) bs) are in
+    let high = leb-true 33 b parts.0 in
+    let rest = plain_length bs words parts.1 in
+    rw (ne_eqb b 32 (λ (same : b ≡ 32). omega (arith, same, high))) (omega (arith, rest))
+
+pub first_plain : (word : List ℕ) (words : List (List ℕ)) → AtLeast 33 word → first_word (word ++ flat_map spaced words) ≡ word
+first_plain word words are =
+    ap (λ (n : ℕ). take n (word ++ flat_map spaced words)) (plain_length word words are) ∙ take-append_seam word (flat_map spaced words)
 
 pub words_plain : (words : List (List ℕ)) → AllByRecursion (AtLeast 32) words → AtLeast 32 (flat_map spaced words)
 words_plain [] are = refl

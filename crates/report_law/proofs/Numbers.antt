@@ -6,13 +6,14 @@ use Rattle.std.specs.Fmt.{decimal}
 use Rattle.std.specs.List.{AllByRecursion, list_all}
 use Rattle.std.specs.Option.{ok_or}
 use Rattle.std.specs.Str.Parse.{AllDigits, digits_value}
-use Rattle.std.proofs.lemmas.Bool.{and_from, and_parts, cond-true, cond-false, le-leb, leb-true, lt-ltb, ne_eqb}
+use Rattle.std.proofs.lemmas.Bool.{and_from, and_parts, cond-true, le-leb, leb-true, lt-ltb, ne_eqb}
 use Rattle.std.proofs.lemmas.Fmt.{decimal_is_IsNumeral}
+use Rattle.line_text.specs.Number.{numeral_of}
 use Rattle.line_text.specs.Text.{dec_text}
 use Rattle.line_text.specs.Outcome.{◌>>=◌}
 use Rattle.ledger_text.specs.declared.fault.LedgerWhy.{LedgerWhy}
 use Rattle.ledger_text.specs.declared.fault.LedgerWhy.TheVariants.{Range}
-use Rattle.ledger_text.specs.RowText.{if_numerals, or_none}
+use Rattle.ledger_text.specs.RowText.{if_numerals}
 use Rattle.ledger_text.specs.Words.{is_dash, is_decimal, is_numeral, number_in}
 use Rattle.report_law.proofs.Bytes.{AtLeast, dec_decimal, dec_high}
 
@@ -24,16 +25,19 @@ digits_all : (ds : List ℕ) → AllDigits 10 ds → list_all (λ c. is_digit c 
 digits_all [] are = refl
 digits_all (d ∷ ds) (small, are) = and_from (is_digit d 10) (list_all (λ c. is_digit c 10) ds) (lt-ltb (digit_value d) 10 small) (digits_all ds are)
 
-pub number_read : (most n : ℕ) → n ≤ most → n < 2 ^ 64 → number_in most (dec_text n) ≡ Ok n
+pub numeral_read : (most n : ℕ) → n ≤ most → n < 2 ^ 64 → numeral_of 10 most (dec_text n) ≡ Some n
 unfolding dec_text
-number_read most n within small =
+numeral_read most n within small =
     let ds = decimal n in
     let is = decimal_is_IsNumeral n small in
     let test : ((nat_lt 0 (length ds) && list_all (λ c. is_digit c 10) ds) && nat_le (digits_value 10 ds) most) ≡ true =
     and_from (nat_lt 0 (length ds) && list_all (λ c. is_digit c 10) ds) (nat_le (digits_value 10 ds) most)
     (and_from (nat_lt 0 (length ds)) (list_all (λ c. is_digit c 10) ds) (lt-ltb 0 (length ds) is.0.0) (digits_all ds is.0.1))
     (le-leb (digits_value 10 ds) most (omega (arith, is.1, within))) in
-    ap (λ (o : Option ℕ). ok_or o Range) (cond-true _ (Some (digits_value 10 ds)) None test ∙ ap (λ (v : ℕ). Some v) is.1)
+    cond-true _ (Some (digits_value 10 ds)) None test ∙ ap (λ (v : ℕ). Some v) is.1
+
+pub number_read : (most n : ℕ) → n ≤ most → n < 2 ^ 64 → number_in most (dec_text n) ≡ Ok n
+number_read most n within small = ap (λ (o : Option ℕ). ok_or o Range) (numeral_read most n within small)
 
 some_digit : (n : ℕ) → n < 2 ^ 64 → 0 < length (dec_text n)
 unfolding dec_text
@@ -51,10 +55,6 @@ high_no_dash (b ∷ bs) are =
 
 pub no_dash : (n : ℕ) → is_dash (dec_text n) ≡ false
 no_dash n = high_no_dash (dec_text n) (dec_high n)
-
-pub some_read : (most n : ℕ) → n ≤ most → n < 2 ^ 64 → or_none most (dec_text n) ≡ Ok (Some n)
-some_read most n within small =
-    cond-false (is_dash (dec_text n)) (Ok None) _ (no_dash n) ∙ then_read (number_in most (dec_text n)) n _ (Ok (Some n)) (number_read most n within small) refl
 
 -- words that are all numerals
 pub all_numerals : (words : List (List ℕ)) → AllByRecursion (λ word. is_numeral word ≡ true) words → list_all is_numeral words ≡ true

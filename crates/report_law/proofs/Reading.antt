@@ -1,27 +1,24 @@
 -- A text that is read up to some place: what of it is known there, and what is left.
 use Rattle.std.proofs.Common.{refl, sym, ◌∙◌, ap, subst, ◌≡◌, ◌+◌, ℕ, List, [], ◌∷◌, ◌++◌, append_assoc, length, Bool, true, false, Some, Result, Ok}
 use Rattle.std.specs.List.{AllByRecursion, flat_map}
-use Rattle.std.specs.Map.{lookup}
-use Rattle.std.specs.Str.{bytes_eq}
 use Rattle.std.proofs.lemmas.List.{append-nil}
 use Rattle.kernel_journal.specs.declared.row.Row.{Row}
 use Rattle.line_text.specs.declared.failure.LineFault.{LineFault}
 use Rattle.line_text.specs.Failing.{in_line}
 use Rattle.line_text.specs.Lines.{lines_from, pieces_of, without_end}
 use Rattle.line_text.specs.WrittenLine.{line, spaced}
-use Rattle.ledger_rules.specs.LedgerState.{time_of}
+use Rattle.kernel_journal.specs.RowTable.{IsRowWithin, RowsAreReadBack}
 use Rattle.ledger_text.specs.declared.entry.Entry.{Entry}
 use Rattle.ledger_text.specs.declared.entry.Entry.TheVariants as entry
 use Rattle.ledger_text.specs.declared.fault.LedgerWhy.{LedgerWhy}
 use Rattle.ledger_text.specs.declared.kind.LineKind.{LineKind}
 use Rattle.ledger_text.specs.LedgerText.{LedgerValue, kind_of, line_said, read_from, said_by, with_entry}
-use Rattle.ledger_text.specs.LineKinds.{before_row, first_word, is_kind_end, kind_names, may_follow}
-use Rattle.ledger_text.specs.Within.{IsTime}
+use Rattle.ledger_text.specs.LineKinds.{before_row, first_word, is_kind_end, kind_named, may_follow}
 use Rattle.report_law.specs.ReportLaw.{values_of}
 use Rattle.report_law.proofs.Bytes.{AtLeast}
 use Rattle.report_law.proofs.Cuts.{first_piece, line_end, line_then}
 use Rattle.report_law.proofs.Numbers.{then_read}
-use Rattle.report_law.proofs.Rows.{IsSmall, known_line, row_body, row_line_said, row_plain}
+use Rattle.report_law.proofs.Rows.{known_line, row_body, row_line_is}
 
 abbrev pub reads : ℕ → LineKind → LedgerValue → ℕ → ℕ → List ℕ → Result LedgerValue (LineFault LedgerWhy)
 reads end last ledger number start text = read_from end last ledger (lines_from number start (pieces_of text))
@@ -105,7 +102,7 @@ module _ (end : ℕ) (from : Result LedgerValue (LineFault LedgerWhy)) (k : Know
 
   -- a line that is known by its first word, and not read further
   pub pass_line : (P Q : LineKind → Bool) (known : LineKind) (word : List ℕ) (words : List (List ℕ)) → is_kind_end known ≡ false → ((last : LineKind) → P last ≡ true → may_follow last known ≡ true)
-      → ((text : List ℕ) → said_by known text ≡ Ok (entry.Other known)) → Q known ≡ true → lookup (bytes_eq (first_word (word ++ flat_map spaced words))) kind_names ≡ Some known
+      → ((text : List ℕ) → said_by known text ≡ Ok (entry.Other known)) → Q known ≡ true → kind_named (first_word (word ++ flat_map spaced words)) ≡ Some known
       → AtLeast 32 (word ++ flat_map spaced words) → Passes end from k P Q (line (word ∷ words))
   pass_line P Q known word words other follows says then named plain rest at =
       let body = word ++ flat_map spaced words in
@@ -115,8 +112,8 @@ module _ (end : ℕ) (from : Result LedgerValue (LineFault LedgerWhy)) (k : Know
       (rest_is end from P k (line (word ∷ words) ++ rest) (body ++ 10 ∷ rest) (line_then word words rest) at)
 
 -- rows
-abbrev pub AreSmall : List Row → Type 0
-AreSmall rows = AllByRecursion (λ (r : Row). IsTime (time_of r) × IsSmall r) rows
+abbrev pub AreWithin : List Row → Type 0
+AreWithin rows = AllByRecursion IsRowWithin rows
 
 abbrev pub row_text : Row → List ℕ
 row_text r = row_body r ++ 10 ∷ []
@@ -124,17 +121,18 @@ row_text r = row_body r ++ 10 ∷ []
 abbrev pub with_rows : Known → List Row → Known
 with_rows k rows = record k { rows = k.rows ++ rows }
 
-pub rows_at : (end : ℕ) (from : Result LedgerValue (LineFault LedgerWhy)) (k : Known) (rows : List Row) (rest : List ℕ) → AreSmall rows
+pub rows_at : RowsAreReadBack → (end : ℕ) (from : Result LedgerValue (LineFault LedgerWhy)) (k : Known) (rows : List Row) (rest : List ℕ) → AreWithin rows
     → At end from before_row k (flat_map row_text rows ++ rest) → At end from before_row (with_rows k rows) rest
-rows_at end from k [] rest small at = subst (λ (rows : List Row). At end from before_row (record k { rows = rows }) rest) (sym (append-nil k.rows)) at
-rows_at end from k (r ∷ rows) rest ((time, here), small) at =
+rows_at back end from k [] rest within at = subst (λ (rows : List Row). At end from before_row (record k { rows = rows }) rest) (sym (append-nil k.rows)) at
+rows_at back end from k (r ∷ rows) rest (here, within) at =
+    let line = row_line_is back r here in
     let tail = flat_map row_text rows ++ rest in
     let l = with_rows k (r ∷ []) in
     let moved : At end from before_row k (row_body r ++ 10 ∷ tail) =
     rest_is end from before_row k (((row_body r ++ 10 ∷ []) ++ flat_map row_text rows) ++ rest) (row_body r ++ 10 ∷ tail)
     (append_assoc (row_body r ++ 10 ∷ []) (flat_map row_text rows) rest ∙ append_assoc (row_body r) (10 ∷ []) tail) at in
     let next : At end from before_row l tail =
-    step_at end from before_row before_row k l (row_body r) tail (entry.Row r) (row_plain r) (λ last passes. row_line_said last r passes time here) refl
+    step_at end from before_row before_row k l (row_body r) tail (entry.Row r) line.plain line.said refl
     (λ number ledger has. record { idle = has.idle; time = has.time; rows = values_more ledger.rows number r ∙ ap (λ (rs : List Row). rs ++ r ∷ []) has.rows; sums = has.sums }) moved in
     subst (λ (rs : List Row). At end from before_row (record k { rows = rs }) rest) (append_assoc k.rows (r ∷ []) rows)
-    (rows_at end from l rows rest small next)
+    (rows_at back end from l rows rest within next)

@@ -1,93 +1,44 @@
 -- A row that is written is read back.
-use Rattle.std.proofs.Common.{arith, refl, ◌∙◌, ap, ◌≡◌, ◌≤◌, ℕ, List, [], ◌∷◌, ◌++◌, Bool, true, false, ◌&&◌, Option, None, Some, Result, Ok, Err, IfSome}
-use Rattle.std.specs.Prelude.{◌||◌, codes, if◌then◌else◌}
+use Rattle.std.proofs.Common.{arith, refl, sym, ◌∙◌, ap, subst, ◌≡◌, ◌≤◌, ◌+◌, ℕ, List, [], ◌∷◌, ◌++◌, map, Bool, true, false, ◌&&◌, Option, None, Some, Ok, Err, IfSome, length}
+use Rattle.std.specs.Prelude.{◌==◌, if◌then◌else◌, is_some, nat_le, unwrap_or}
 use Rattle.std.specs.List.{AllByRecursion, flat_map, list_all}
 use Rattle.std.specs.Map.{lookup}
 use Rattle.std.specs.Option.{ok_or}
 use Rattle.std.specs.Str.{bytes_eq}
-use Rattle.std.proofs.lemmas.Bool.{and_from, cond-true, or_left}
+use Rattle.std.proofs.lemmas.Bool.{and_from, and_parts, cond-false, cond-true, eqb-true, leb-true, or_right}
+use Rattle.std.proofs.lemmas.Slice.Eq.{bytes_eq-Decides}
 use Rattle.aegis_limits.specs.Limits.{most_ticks}
+use Rattle.kernel_journal.specs.declared.reading.RowFault.TheVariants.{Form, Range}
 use Rattle.kernel_journal.specs.declared.row.Row.{Row}
-use Rattle.kernel_journal.specs.declared.row.Row.TheVariants as row
-use Rattle.line_text.specs.Outcome.{◌>>=◌}
+use Rattle.kernel_journal.specs.declared.table.NumberKind.{NumberKind}
+use Rattle.kernel_journal.specs.declared.table.NumberKind.TheVariants as number
+use Rattle.kernel_journal.specs.declared.table.RowName.{RowName}
+use Rattle.kernel_journal.specs.RowTable.{IsRowWithin, RowsAreReadBack, all_names, are_within, each_has_kind, has_form, is_within, kinds_of, most_of, name_in, name_of, named_row, numbers_of, row_by, row_of, row_with, text_of, time_of}
 use Rattle.line_text.specs.Text.{dec_text}
 use Rattle.line_text.specs.WrittenLine.{or_dash, spaced}
-use Rattle.ledger_rules.specs.LedgerState.{time_of}
 use Rattle.ledger_text.specs.declared.entry.Entry.{Entry}
 use Rattle.ledger_text.specs.declared.entry.Entry.TheVariants as entry
-use Rattle.ledger_text.specs.declared.fault.LedgerWhy.{LedgerWhy}
 use Rattle.ledger_text.specs.declared.fault.LedgerWhy.TheVariants.{Syntax}
 use Rattle.ledger_text.specs.declared.kind.LineKind.{LineKind}
 use Rattle.ledger_text.specs.declared.kind.LineKind.TheVariants as kind
 use Rattle.ledger_text.specs.LedgerText.{line_said, said_by}
-use Rattle.ledger_text.specs.Limits.{last_environment, last_slot, most_excess, most_number}
-use Rattle.ledger_text.specs.LineKinds.{before_row, first_word, is_kind_end, is_kind_title, kind_after, kind_names, may_follow}
-use Rattle.ledger_text.specs.RowText.{drop_said, env_in, gift_said, if_numerals, is_own_form, is_take_form, or_none, other_in, own_said, row_said, slot_in, take_said, time_in}
-use Rattle.ledger_text.specs.Within.{IsEnv, IsSlot, IsTime}
-use Rattle.ledger_text.specs.Words.{is_dash, is_numeral, number_in, spaced_words}
+use Rattle.ledger_text.specs.Limits.{last_environment, most_number}
+use Rattle.ledger_text.specs.LineKinds.{before_row, first_word, is_kind_end, is_kind_title, kind_after, kind_named, kind_names, may_follow}
+use Rattle.ledger_text.specs.RowText.{env_in, is_said, number_said, other_in, row_or_fault, row_said, row_told, time_in}
+use Rattle.ledger_text.specs.Within.{IsEnv, IsTime}
+use Rattle.ledger_text.specs.Words.{is_dash, is_numeral, spaced_words}
+use Rattle.ledger_text.proofs.Found.{found_passes}
 use Rattle.report_law.proofs.Bytes.{AtLeast, both, dec_high, lower}
-use Rattle.report_law.proofs.Cuts.{words_cut, words_plain}
-use Rattle.report_law.proofs.Numbers.{all_numerals, if_all, number_read, numeral_is, some_read, then_read}
+use Rattle.report_law.proofs.Cuts.{first_plain, words_cut, words_plain}
+use Rattle.report_law.proofs.Numbers.{no_dash, number_read, numeral_is, numeral_read, then_read}
 
-abbrev pub row_name : Row → List ℕ
-row_name (row.Own t slot owner holder) = codes "own"
-row_name (row.Run t slot e) = codes "run"
-row_name (row.Pay t slot e) = codes "pay"
-row_name (row.Give t slot from to) = codes "give"
-row_name (row.Async t slot from to) = codes "async"
-row_name (row.Sync t slot from to) = codes "sync"
-row_name (row.End t slot e) = codes "end"
-row_name (row.Over t slot e excess) = codes "over"
-row_name (row.Stop t slot e) = codes "stop"
-row_name (row.Dead t slot e) = codes "dead"
-row_name (row.Asked t e outstanding deadline) = codes "asked"
-row_name (row.Take t e page backup) = codes "take"
-row_name (row.Unclaimed t size) = codes "drop"
-
-abbrev pub row_words : Row → List (List ℕ)
-row_words (row.Own t slot owner holder) = dec_text t ∷ dec_text slot ∷ or_dash owner ∷ or_dash holder ∷ []
-row_words (row.Run t slot e) = dec_text t ∷ dec_text slot ∷ dec_text e ∷ []
-row_words (row.Pay t slot e) = dec_text t ∷ dec_text slot ∷ dec_text e ∷ []
-row_words (row.Give t slot from to) = dec_text t ∷ dec_text slot ∷ dec_text from ∷ dec_text to ∷ []
-row_words (row.Async t slot from to) = dec_text t ∷ dec_text slot ∷ dec_text from ∷ dec_text to ∷ []
-row_words (row.Sync t slot from to) = dec_text t ∷ dec_text slot ∷ dec_text from ∷ dec_text to ∷ []
-row_words (row.End t slot e) = dec_text t ∷ dec_text slot ∷ dec_text e ∷ []
-row_words (row.Over t slot e excess) = dec_text t ∷ dec_text slot ∷ dec_text e ∷ dec_text excess ∷ []
-row_words (row.Stop t slot e) = dec_text t ∷ dec_text slot ∷ dec_text e ∷ []
-row_words (row.Dead t slot e) = dec_text t ∷ dec_text slot ∷ dec_text e ∷ []
-row_words (row.Asked t e outstanding deadline) = dec_text t ∷ dec_text e ∷ dec_text outstanding ∷ dec_text deadline ∷ []
-row_words (row.Take t e page backup) = dec_text t ∷ dec_text e ∷ dec_text page ∷ or_dash backup ∷ []
-row_words (row.Unclaimed t size) = dec_text t ∷ dec_text size ∷ []
-
--- an owner and a holder, or neither
-abbrev pub AreBoth : Option ℕ → Option ℕ → Type 0
-AreBoth None None = Unit {0}
-AreBoth (Some a) (Some b) = IsEnv a × IsEnv b
-AreBoth None (Some b) = ⊥
-AreBoth (Some a) None = ⊥
-
--- the numbers of a row behind its time are within their limits
+-- a row whose numbers are within their limits once its time is
 abbrev pub IsSmall : Row → Type 0
-IsSmall (row.Own t slot owner holder) = IsSlot slot × AreBoth owner holder
-IsSmall (row.Run t slot e) = IsSlot slot × IsEnv e
-IsSmall (row.Pay t slot e) = IsSlot slot × IsEnv e
-IsSmall (row.Give t slot from to) = IsSlot slot × IsEnv from × IsEnv to
-IsSmall (row.Async t slot from to) = IsSlot slot × IsEnv from × IsEnv to
-IsSmall (row.Sync t slot from to) = IsSlot slot × IsEnv from × IsEnv to
-IsSmall (row.End t slot e) = IsSlot slot × IsEnv e
-IsSmall (row.Over t slot e excess) = IsSlot slot × IsEnv e × (excess ≤ most_excess)
-IsSmall (row.Stop t slot e) = IsSlot slot × IsEnv e
-IsSmall (row.Dead t slot e) = IsSlot slot × IsEnv e
-IsSmall (row.Asked t e outstanding deadline) = IsEnv e × (outstanding ≤ most_number) × (deadline ≤ most_number)
-IsSmall (row.Take t e page backup) = IsEnv e × (page ≤ most_number) × IfSome backup (λ (p : ℕ). p ≤ most_number)
-IsSmall (row.Unclaimed t size) = size ≤ most_number
+IsSmall r = IsTime (time_of r) → IsRowWithin r
 
 -- numbers within the limits
 pub time_is : (t : ℕ) → IsTime t → time_in (dec_text t) ≡ Ok t
 time_is t within = number_read most_ticks t within (omega (arith, within))
-
-slot_is : (k : ℕ) → IsSlot k → slot_in (dec_text k) ≡ Ok k
-slot_is k within = number_read last_slot k within (omega (arith, within))
 
 pub env_is : (e : ℕ) → IsEnv e → env_in (dec_text e) ≡ Ok e
 env_is e within = number_read last_environment e within (omega (arith, within))
@@ -95,17 +46,8 @@ env_is e within = number_read last_environment e within (omega (arith, within))
 pub other_is : (n : ℕ) → n ≤ most_number → other_in (dec_text n) ≡ Ok n
 other_is n within = number_read most_number n within (omega (arith, within))
 
-excess_is : (n : ℕ) → n ≤ most_excess → number_in most_excess (dec_text n) ≡ Ok n
-excess_is n within = number_read most_excess n within (omega (arith, within))
-
-abbrev IsNumber : List ℕ → Type 0
-IsNumber word = is_numeral word ≡ true
-
 pub time_spells : (t : ℕ) → IsTime t → is_numeral (dec_text t) ≡ true
 time_spells t within = numeral_is t (omega (arith, within))
-
-slot_spells : (k : ℕ) → IsSlot k → IsNumber (dec_text k)
-slot_spells k within = numeral_is k (omega (arith, within))
 
 pub env_spells : (e : ℕ) → IsEnv e → is_numeral (dec_text e) ≡ true
 env_spells e within = numeral_is e (omega (arith, within))
@@ -113,91 +55,103 @@ env_spells e within = numeral_is e (omega (arith, within))
 pub other_spells : (n : ℕ) → n ≤ most_number → is_numeral (dec_text n) ≡ true
 other_spells n within = numeral_is n (omega (arith, within))
 
-excess_spells : (n : ℕ) → n ≤ most_excess → IsNumber (dec_text n)
-excess_spells n within = numeral_is n (omega (arith, within))
+-- A name and numbers that are a row have its form, and are within its limits.
+row_parts : (known : RowName) (numbers : List (Option ℕ)) (r : Row) → row_by known numbers ≡ Ok r → (has_form known numbers ≡ true) × (are_within (kinds_of known) numbers ≡ true)
+row_parts known numbers r is = by_tests (has_form known numbers) (are_within (kinds_of known) numbers) refl refl is
+  where
+    by_tests : (form within : Bool) → has_form known numbers ≡ form → are_within (kinds_of known) numbers ≡ within
+        → (if form then (if within then ok_or (row_with known numbers) Form else Err Range) else Err Form) ≡ Ok r
+        → (has_form known numbers ≡ true) × (are_within (kinds_of known) numbers ≡ true)
+    by_tests true true form within is = (form, within)
+    by_tests true false form within is = cc
+    by_tests false within form other is = cc
 
-short_read : (made : ℕ → ℕ → ℕ → Row) (t k e : ℕ) → IsTime t → IsSlot k → IsEnv e
-    → if_numerals (dec_text t ∷ dec_text k ∷ dec_text e ∷ []) (time_in (dec_text t) >>= λ t. slot_in (dec_text k) >>= λ k. env_in (dec_text e) >>= λ e. Ok (made t k e)) ≡ Ok (made t k e)
-short_read made t k e at place who =
-    if_all (dec_text t ∷ dec_text k ∷ dec_text e ∷ []) (time_in (dec_text t) >>= λ t. slot_in (dec_text k) >>= λ k. env_in (dec_text e) >>= λ e. Ok (made t k e)) (Ok (made t k e)) (time_spells t at, (slot_spells k place, (env_spells e who, tt)))
-    (then_read (time_in (dec_text t)) t _ _ (time_is t at) (then_read (slot_in (dec_text k)) k _ _ (slot_is k place) (then_read (env_in (dec_text e)) e _ _ (env_is e who) refl)))
+abbrev IsNumberSmall : Option ℕ → Type 0
+IsNumberSmall n = IfSome n (λ (x : ℕ). x ≤ most_number)
 
-four_spell : (a b c d : ℕ) → IsNumber (dec_text a) → IsNumber (dec_text b) → IsNumber (dec_text c) → IsNumber (dec_text d) → list_all is_numeral (dec_text a ∷ dec_text b ∷ dec_text c ∷ dec_text d ∷ []) ≡ true
-four_spell a b c d first second third fourth = all_numerals (dec_text a ∷ dec_text b ∷ dec_text c ∷ dec_text d ∷ []) (first, (second, (third, (fourth, tt))))
+kind_small : (kind : NumberKind) → most_of kind ≤ most_number
+kind_small number.Time = omega arith
+kind_small number.Slot = omega arith
+kind_small number.Env = omega arith
+kind_small number.EnvOrNone = omega arith
+kind_small number.Excess = omega arith
+kind_small number.Number = omega arith
+kind_small number.NumberOrNone = omega arith
 
--- behind a test of the form
-formed : (form : Bool) (said : Result Row LedgerWhy) (y : Result Row LedgerWhy) → form ≡ true → said ≡ y → (if form then said else Err Syntax) ≡ y
-formed form said y is next = cond-true form said (Err Syntax) is ∙ next
+number_small : (kind : NumberKind) (n : Option ℕ) → is_within kind n ≡ true → IsNumberSmall n
+number_small kind None is = tt
+number_small kind (Some n) is = let most = kind_small kind in let less = leb-true n (most_of kind) is in omega (arith, most, less)
 
-gift_numbers : (t k a b : ℕ) → IsTime t → IsSlot k → IsEnv a → IsEnv b → gift_said (dec_text t) (dec_text k) (dec_text a) (dec_text b) ≡ Ok (record { time = t; slot = k; from = a; to = b })
-gift_numbers t k a b at place from to =
-    then_read (time_in (dec_text t)) t _ _ (time_is t at) (then_read (slot_in (dec_text k)) k _ _ (slot_is k place)
-    (then_read (env_in (dec_text a)) a _ _ (env_is a from) (then_read (env_in (dec_text b)) b _ _ (env_is b to) refl)))
+all_small : (kinds : List NumberKind) (numbers : List (Option ℕ)) → length numbers ≡ length kinds → are_within kinds numbers ≡ true → AllByRecursion IsNumberSmall numbers
+all_small kinds [] many are = tt
+all_small [] (n ∷ numbers) many are = absurd (omega (arith, many))
+all_small (kind ∷ kinds) (n ∷ numbers) many are =
+    let parts = and_parts (is_within kind n) (are_within kinds numbers) are in
+    (number_small kind n parts.0, all_small kinds numbers (omega (arith, many)) parts.1)
 
-gift_spells : (t k a b : ℕ) → IsTime t → IsSlot k → IsEnv a → IsEnv b → list_all is_numeral (dec_text t ∷ dec_text k ∷ dec_text a ∷ dec_text b ∷ []) ≡ true
-gift_spells t k a b at place from to = four_spell t k a b (time_spells t at) (slot_spells k place) (env_spells a from) (env_spells b to)
+numbers_small : (text : List ℕ) (numbers : List (Option ℕ)) (r : Row) → row_of text numbers ≡ Ok r → AllByRecursion IsNumberSmall numbers
+unfolding row_of
+numbers_small text numbers r is = by_name (name_in text) is
+  where
+    by_name : (known : Option RowName) → named_row known numbers ≡ Ok r → AllByRecursion IsNumberSmall numbers
+    by_name None is = cc
+    by_name (Some known) is =
+        let parts = row_parts known numbers r is in
+        let form = (and_parts ((length numbers == length (kinds_of known)) && each_has_kind (kinds_of known) numbers) _ parts.0).0 in
+        let many = (and_parts (length numbers == length (kinds_of known)) (each_has_kind (kinds_of known) numbers) form).0 in
+        all_small (kinds_of known) numbers (eqb-true (length numbers) (length (kinds_of known)) many) parts.1
 
-own_read : (t k : ℕ) (owner holder : Option ℕ) → IsTime t → IsSlot k → AreBoth owner holder
-    → (if is_own_form (dec_text t) (dec_text k) (or_dash owner) (or_dash holder) then own_said (dec_text t) (dec_text k) (or_dash owner) (or_dash holder) else Err Syntax) ≡ Ok (row.Own t k owner holder)
-own_read t k None None at place both =
-    formed (is_own_form (dec_text t) (dec_text k) (codes "-") (codes "-")) _ _
-    (and_from (list_all is_numeral (dec_text t ∷ dec_text k ∷ [])) true (all_numerals (dec_text t ∷ dec_text k ∷ []) (time_spells t at, (slot_spells k place, tt))) refl)
-    (then_read (time_in (dec_text t)) t _ _ (time_is t at) (then_read (slot_in (dec_text k)) k _ _ (slot_is k place) refl))
-own_read t k (Some a) (Some b) at place (owner, holder) =
-    formed (is_own_form (dec_text t) (dec_text k) (dec_text a) (dec_text b)) _ _
-    (and_from (list_all is_numeral (dec_text t ∷ dec_text k ∷ [])) (list_all is_numeral (dec_text a ∷ dec_text b ∷ []) || (is_dash (dec_text a) && is_dash (dec_text b)))
-    (all_numerals (dec_text t ∷ dec_text k ∷ []) (time_spells t at, (slot_spells k place, tt)))
-    (or_left (list_all is_numeral (dec_text a ∷ dec_text b ∷ [])) _ (all_numerals (dec_text a ∷ dec_text b ∷ []) (env_spells a owner, (env_spells b holder, tt)))))
-    (then_read (time_in (dec_text t)) t _ _ (time_is t at) (then_read (slot_in (dec_text k)) k _ _ (slot_is k place)
-    (then_read (or_none last_environment (dec_text a)) (Some a) _ _ (some_read last_environment a owner (omega (arith, owner)))
-    (then_read (or_none last_environment (dec_text b)) (Some b) _ _ (some_read last_environment b holder (omega (arith, holder))) refl))))
-own_read t k None (Some b) at place both = absurd both
-own_read t k (Some a) None at place both = absurd both
+-- the words of such numbers stand for them
+word_said : (n : Option ℕ) → IsNumberSmall n → (is_said (or_dash n) ≡ true) × (number_said (or_dash n) ≡ n)
+word_said None small = (refl, refl)
+word_said (Some n) small = (
+  or_right (is_dash (dec_text n)) (is_numeral (dec_text n)) (numeral_is n (omega (arith, small))),
+  cond-false (is_dash (dec_text n)) None _ (no_dash n) ∙ ap (λ (o : Option ℕ). Some (unwrap_or o (most_number + 1))) (numeral_read most_number n small (omega (arith, small))),
+)
 
-take_read : (t e page : ℕ) (backup : Option ℕ) → IsTime t → IsEnv e → page ≤ most_number → IfSome backup (λ (p : ℕ). p ≤ most_number)
-    → (if is_take_form (dec_text t) (dec_text e) (dec_text page) (or_dash backup) then take_said (dec_text t) (dec_text e) (dec_text page) (or_dash backup) else Err Syntax) ≡ Ok (row.Take t e page backup)
-take_read t e page None at who small copy =
-    formed (is_take_form (dec_text t) (dec_text e) (dec_text page) (codes "-")) _ _
-    (and_from (list_all is_numeral (dec_text t ∷ dec_text e ∷ dec_text page ∷ [])) true
-    (all_numerals (dec_text t ∷ dec_text e ∷ dec_text page ∷ []) (time_spells t at, (env_spells e who, (other_spells page small, tt)))) refl)
-    (then_read (time_in (dec_text t)) t _ _ (time_is t at) (then_read (env_in (dec_text e)) e _ _ (env_is e who) (then_read (other_in (dec_text page)) page _ _ (other_is page small) refl)))
-take_read t e page (Some b) at who small copy =
-    formed (is_take_form (dec_text t) (dec_text e) (dec_text page) (dec_text b)) _ _
-    (and_from (list_all is_numeral (dec_text t ∷ dec_text e ∷ dec_text page ∷ [])) (is_numeral (dec_text b) || is_dash (dec_text b))
-    (all_numerals (dec_text t ∷ dec_text e ∷ dec_text page ∷ []) (time_spells t at, (env_spells e who, (other_spells page small, tt))))
-    (or_left (is_numeral (dec_text b)) (is_dash (dec_text b)) (other_spells b copy)))
-    (then_read (time_in (dec_text t)) t _ _ (time_is t at) (then_read (env_in (dec_text e)) e _ _ (env_is e who) (then_read (other_in (dec_text page)) page _ _ (other_is page small)
-    (then_read (or_none most_number (dec_text b)) (Some b) _ _ (some_read most_number b copy (omega (arith, copy))) refl))))
+words_said : (numbers : List (Option ℕ)) → AllByRecursion IsNumberSmall numbers
+    → (list_all is_said (map or_dash numbers) ≡ true) × (map number_said (map or_dash numbers) ≡ numbers)
+words_said [] all = (refl, refl)
+words_said (n ∷ numbers) (here, rest) =
+    let first = word_said n here in
+    let others = words_said numbers rest in (
+      and_from (is_said (or_dash n)) (list_all is_said (map or_dash numbers)) first.0 others.0,
+      ap (λ (m : Option ℕ). m ∷ map number_said (map or_dash numbers)) first.1 ∙ ap (λ (ms : List (Option ℕ)). n ∷ ms) others.1,
+    )
 
-pub row_read : (r : Row) → IsTime (time_of r) → IsSmall r → row_said (row_name r ∷ row_words r) ≡ Ok r
-row_read (row.Own t slot owner holder) at (place, both) = own_read t slot owner holder at place both
-row_read (row.Run t slot e) at (place, who) = short_read row.Run t slot e at place who
-row_read (row.Pay t slot e) at (place, who) = short_read row.Pay t slot e at place who
-row_read (row.Give t slot from to) at (place, giver, taker) =
-    formed _ _ _ (gift_spells t slot from to at place giver taker) (then_read (gift_said (dec_text t) (dec_text slot) (dec_text from) (dec_text to)) _ _ _ (gift_numbers t slot from to at place giver taker) refl)
-row_read (row.Async t slot from to) at (place, giver, taker) =
-    formed _ _ _ (gift_spells t slot from to at place giver taker) (then_read (gift_said (dec_text t) (dec_text slot) (dec_text from) (dec_text to)) _ _ _ (gift_numbers t slot from to at place giver taker) refl)
-row_read (row.Sync t slot from to) at (place, giver, taker) =
-    formed _ _ _ (gift_spells t slot from to at place giver taker) (then_read (gift_said (dec_text t) (dec_text slot) (dec_text from) (dec_text to)) _ _ _ (gift_numbers t slot from to at place giver taker) refl)
-row_read (row.End t slot e) at (place, who) = short_read row.End t slot e at place who
-row_read (row.Over t slot e excess) at (place, who, few) =
-    formed _ _ _ (four_spell t slot e excess (time_spells t at) (slot_spells slot place) (env_spells e who) (excess_spells excess few))
-    (then_read (time_in (dec_text t)) t _ _ (time_is t at) (then_read (slot_in (dec_text slot)) slot _ _ (slot_is slot place)
-    (then_read (env_in (dec_text e)) e _ _ (env_is e who) (then_read (number_in most_excess (dec_text excess)) excess _ _ (excess_is excess few) refl))))
-row_read (row.Stop t slot e) at (place, who) = short_read row.Stop t slot e at place who
-row_read (row.Dead t slot e) at (place, who) = short_read row.Dead t slot e at place who
-row_read (row.Asked t e outstanding deadline) at (who, many, until) =
-    formed _ _ _ (four_spell t e outstanding deadline (time_spells t at) (env_spells e who) (other_spells outstanding many) (other_spells deadline until))
-    (then_read (time_in (dec_text t)) t _ _ (time_is t at) (then_read (env_in (dec_text e)) e _ _ (env_is e who)
-    (then_read (other_in (dec_text outstanding)) outstanding _ _ (other_is outstanding many) (then_read (other_in (dec_text deadline)) deadline _ _ (other_is deadline until) refl))))
-row_read (row.Take t e page backup) at (who, small, copy) = take_read t e page backup at who small copy
-row_read (row.Unclaimed t size) at small =
-    if_all (dec_text t ∷ dec_text size ∷ []) (drop_said (dec_text t) (dec_text size)) (Ok (row.Unclaimed t size)) (time_spells t at, (other_spells size small, tt))
-    (then_read (time_in (dec_text t)) t _ _ (time_is t at) (then_read (other_in (dec_text size)) size _ _ (other_is size small) refl))
+abbrev row_words : Row → List (List ℕ)
+row_words r = map or_dash (numbers_of r)
+
+row_read : (r : Row) → row_of (name_of r) (numbers_of r) ≡ Ok r → row_told (name_of r) (row_words r) ≡ Ok r
+row_read r is =
+    let words = words_said (numbers_of r) (numbers_small (name_of r) (numbers_of r) r is) in
+    cond-true (list_all is_said (row_words r)) _ (Err Syntax) words.0
+    ∙ (ap (λ (numbers : List (Option ℕ)). row_or_fault (row_of (name_of r) numbers)) words.1 ∙ ap row_or_fault is)
+
+-- the name of a row: no byte of it ends a word, and it begins the line of a row
+record IsName (text : List ℕ) : Type 0 where
+  solid : AtLeast 33 text
+  kind : kind_named text ≡ Some kind.Row
+
+solid_text : (text : List ℕ) (known : RowName) → name_in text ≡ Some known → AtLeast 33 text
+solid_text text known found =
+    let passes = found_passes (λ n. list_all (nat_le 33) (text_of n)) (λ n. bytes_eq text (text_of n)) all_names known refl found in
+    subst (AtLeast 33) (sym ((bytes_eq-Decides text (text_of known)).0 passes.1)) passes.0
+
+is_name : (text : List ℕ) (numbers : List (Option ℕ)) (r : Row) → row_of text numbers ≡ Ok r → IsName text
+unfolding row_of
+is_name text numbers r is = by_name (name_in text) refl is
+  where
+    by_name : (known : Option RowName) → name_in text ≡ known → named_row known numbers ≡ Ok r → IsName text
+    by_name None none is = cc
+    by_name (Some known) found is = record {
+      solid = solid_text text known found;
+      kind = ap (λ (o : Option RowName). if is_some o then Some kind.Row else lookup (bytes_eq text) kind_names) found;
+    }
 
 -- the line of a row
 abbrev pub row_body : Row → List ℕ
-row_body r = row_name r ++ flat_map spaced (row_words r)
+row_body r = name_of r ++ flat_map spaced (row_words r)
 
 pub dec_solid : (n : ℕ) → AtLeast 33 (dec_text n)
 dec_solid n = lower 33 48 (dec_text n) (omega arith) (dec_high n)
@@ -206,58 +160,13 @@ dash_solid : (o : Option ℕ) → AtLeast 33 (or_dash o)
 dash_solid None = refl
 dash_solid (Some n) = dec_solid n
 
-name_solid : (r : Row) → AtLeast 33 (row_name r)
-name_solid (row.Own t slot owner holder) = refl
-name_solid (row.Run t slot e) = refl
-name_solid (row.Pay t slot e) = refl
-name_solid (row.Give t slot from to) = refl
-name_solid (row.Async t slot from to) = refl
-name_solid (row.Sync t slot from to) = refl
-name_solid (row.End t slot e) = refl
-name_solid (row.Over t slot e excess) = refl
-name_solid (row.Stop t slot e) = refl
-name_solid (row.Dead t slot e) = refl
-name_solid (row.Asked t e outstanding deadline) = refl
-name_solid (row.Take t e page backup) = refl
-name_solid (row.Unclaimed t size) = refl
-
-words_solid : (r : Row) → AllByRecursion (AtLeast 33) (row_words r)
-words_solid (row.Own t slot owner holder) = (dec_solid t, (dec_solid slot, (dash_solid owner, (dash_solid holder, tt))))
-words_solid (row.Run t slot e) = (dec_solid t, (dec_solid slot, (dec_solid e, tt)))
-words_solid (row.Pay t slot e) = (dec_solid t, (dec_solid slot, (dec_solid e, tt)))
-words_solid (row.Give t slot from to) = (dec_solid t, (dec_solid slot, (dec_solid from, (dec_solid to, tt))))
-words_solid (row.Async t slot from to) = (dec_solid t, (dec_solid slot, (dec_solid from, (dec_solid to, tt))))
-words_solid (row.Sync t slot from to) = (dec_solid t, (dec_solid slot, (dec_solid from, (dec_solid to, tt))))
-words_solid (row.End t slot e) = (dec_solid t, (dec_solid slot, (dec_solid e, tt)))
-words_solid (row.Over t slot e excess) = (dec_solid t, (dec_solid slot, (dec_solid e, (dec_solid excess, tt))))
-words_solid (row.Stop t slot e) = (dec_solid t, (dec_solid slot, (dec_solid e, tt)))
-words_solid (row.Dead t slot e) = (dec_solid t, (dec_solid slot, (dec_solid e, tt)))
-words_solid (row.Asked t e outstanding deadline) = (dec_solid t, (dec_solid e, (dec_solid outstanding, (dec_solid deadline, tt))))
-words_solid (row.Take t e page backup) = (dec_solid t, (dec_solid e, (dec_solid page, (dash_solid backup, tt))))
-words_solid (row.Unclaimed t size) = (dec_solid t, (dec_solid size, tt))
+numbers_solid : (numbers : List (Option ℕ)) → AllByRecursion (AtLeast 33) (map or_dash numbers)
+numbers_solid [] = tt
+numbers_solid (n ∷ numbers) = (dash_solid n, numbers_solid numbers)
 
 pub solid_plain : (words : List (List ℕ)) → AllByRecursion (AtLeast 33) words → AllByRecursion (AtLeast 32) words
 solid_plain [] are = tt
 solid_plain (word ∷ words) (here, rest) = (lower 32 33 word (omega arith) here, solid_plain words rest)
-
-pub row_plain : (r : Row) → AtLeast 32 (row_body r)
-row_plain r =
-    both 32 (row_name r) (flat_map spaced (row_words r)) (lower 32 33 (row_name r) (omega arith) (name_solid r)) (words_plain (row_words r) (solid_plain (row_words r) (words_solid r)))
-
-row_kind : (r : Row) → lookup (bytes_eq (first_word (row_body r))) kind_names ≡ Some kind.Row
-row_kind (row.Own t slot owner holder) = refl
-row_kind (row.Run t slot e) = refl
-row_kind (row.Pay t slot e) = refl
-row_kind (row.Give t slot from to) = refl
-row_kind (row.Async t slot from to) = refl
-row_kind (row.Sync t slot from to) = refl
-row_kind (row.End t slot e) = refl
-row_kind (row.Over t slot e excess) = refl
-row_kind (row.Stop t slot e) = refl
-row_kind (row.Dead t slot e) = refl
-row_kind (row.Asked t e outstanding deadline) = refl
-row_kind (row.Take t e page backup) = refl
-row_kind (row.Unclaimed t size) = refl
 
 -- only directly behind the title does `end` begin another line
 titled : (last known : LineKind) → is_kind_end known ≡ false → may_follow last known ≡ true → is_kind_title last ≡ false
@@ -265,19 +174,31 @@ titled kind.Title kind.End other follows = cc
 titled kind.Title known other follows = cc
 titled last known other follows = refl
 
-untitled : (last : LineKind) (name : List ℕ) → is_kind_title last ≡ false → kind_after last name ≡ lookup (bytes_eq name) kind_names
+untitled : (last : LineKind) (name : List ℕ) → is_kind_title last ≡ false → kind_after last name ≡ kind_named name
 untitled kind.Title name is = cc
 untitled last name is = refl
 
 -- a line that its first word tells
 pub known_line : (last known : LineKind) (text : List ℕ) (said : Entry) → is_kind_end known ≡ false → may_follow last known ≡ true
-    → lookup (bytes_eq (first_word text)) kind_names ≡ Some known → said_by known text ≡ Ok said → line_said last text ≡ Ok said
+    → kind_named (first_word text) ≡ Some known → said_by known text ≡ Ok said → line_said last text ≡ Ok said
 known_line last known text said other follows named says =
     then_read (ok_or (kind_after last (first_word text)) Syntax) known _ _
     (ap (λ (o : Option LineKind). ok_or o Syntax) (untitled last (first_word text) (titled last known other follows) ∙ named))
     (cond-true (may_follow last known) (said_by known text) (Err Syntax) follows ∙ says)
 
-pub row_line_said : (last : LineKind) (r : Row) → before_row last ≡ true → IsTime (time_of r) → IsSmall r → line_said last (row_body r) ≡ Ok (entry.Row r)
-row_line_said last r follows at small =
-    known_line last kind.Row (row_body r) (entry.Row r) refl follows (row_kind r)
-    (then_read (row_said (spaced_words (row_body r))) r _ _ (ap row_said (words_cut (row_name r) (row_words r) (name_solid r) (words_solid r)) ∙ row_read r at small) refl)
+-- What is written of a row within its limits is its line.
+pub record IsRowLine (r : Row) : Type 0 where
+  pub plain : AtLeast 32 (row_body r)
+  pub said : (last : LineKind) → before_row last ≡ true → line_said last (row_body r) ≡ Ok (entry.Row r)
+
+pub row_line_is : RowsAreReadBack → (r : Row) → IsRowWithin r → IsRowLine r
+row_line_is back r within =
+    let is = back r within in
+    let name = is_name (name_of r) (numbers_of r) r is in
+    let words = numbers_solid (numbers_of r) in
+    record {
+      plain = both 32 (name_of r) (flat_map spaced (row_words r)) (lower 32 33 (name_of r) (omega arith) name.solid) (words_plain (row_words r) (solid_plain (row_words r) words));
+      said = λ last follows.
+          known_line last kind.Row (row_body r) (entry.Row r) refl follows (ap kind_named (first_plain (name_of r) (row_words r) name.solid) ∙ name.kind)
+          (then_read (row_said (spaced_words (row_body r))) r _ _ (ap row_said (words_cut (name_of r) (row_words r) name.solid words) ∙ row_read r is) refl);
+    }

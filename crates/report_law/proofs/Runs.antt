@@ -11,7 +11,8 @@ use Rattle.call_verdicts.specs.Granted.{GrantedMay}
 use Rattle.run_model.specs.Excess.{is_over_of, is_pay_of, is_run_of}
 use Rattle.run_model.specs.Licensed.{FeedIsLicensed}
 use Rattle.run_model.specs.Run.{IsFoldOfFeed, System, end_of_run, world_after}
-use Rattle.ledger_rules.specs.LedgerState.{LedgerState, first_state, state_after, time_of}
+use Rattle.kernel_journal.specs.RowTable.{RowsAreReadBack, time_of}
+use Rattle.ledger_audit.specs.LedgerState.{LedgerState, first_state, state_after}
 use Rattle.ledger_text.specs.Limits.{most_number}
 use Rattle.ledger_audit.specs.Answer.{is_sum, rows_of}
 use Rattle.ledger_law.specs.LedgerLaw.{RowsFit, RunsAreClean}
@@ -19,14 +20,14 @@ use Rattle.report_law.specs.ReportLaw.{AreEventsWithin, ReportsAreClean, Reports
 use Rattle.report_law.proofs.Bounded.{AllSmall}
 use Rattle.report_law.proofs.Counts.{IsCounted, overs_told, pays_told, rows_counted, runs_told, started}
 use Rattle.report_law.proofs.Names.{run_named}
-use Rattle.report_law.proofs.Reading.{AreSmall}
+use Rattle.report_law.proofs.Reading.{AreWithin}
 use Rattle.report_law.proofs.Ticks.{count_is, run_bounded}
 use Rattle.report_law.proofs.Whole.{IsShown, report_read, rows_values, sums_right}
 
 -- times and other numbers together
-rows_small : (most : ℕ) (rows : List Row) → most ≤ most_ticks → AllByRecursion (λ (r : Row). time_of r ≤ most) rows → AllSmall rows → AreSmall rows
+rows_small : (most : ℕ) (rows : List Row) → most ≤ most_ticks → AllByRecursion (λ (r : Row). time_of r ≤ most) rows → AllSmall rows → AreWithin rows
 rows_small most [] soon times small = tt
-rows_small most (r ∷ rows) soon (time, times) (here, small) = ((omega (arith, time, soon), here), rows_small most rows soon times small)
+rows_small most (r ∷ rows) soon (time, times) (here, small) = (here (omega (arith, time, soon)), rows_small most rows soon times small)
 
 begun : (s : LedgerState) (end e : ℕ) → IsCounted end s → s.runs e ≤ s.time + 1
 begun s end e c = by_runner s.runner (c.runs e)
@@ -71,11 +72,11 @@ shown granted fold licensed fit system limit accepted events soon =
       counts = λ e. few_of w.rows w.book.time e time counted.state;
     }
 
-pub reports_read : GrantedMay → IsFoldOfFeed → FeedIsLicensed → RowsFit → ReportsAreRead
-reports_read granted fold licensed fit system limit accepted events soon =
+pub reports_read : RowsAreReadBack → GrantedMay → IsFoldOfFeed → FeedIsLicensed → RowsFit → ReportsAreRead
+reports_read back granted fold licensed fit system limit accepted events soon =
     let w = world_after system limit in
     let how = end_of_run w limit in
-    let read = report_read w how (shown granted fold licensed fit system limit accepted events soon) in
+    let read = report_read back w how (shown granted fold licensed fit system limit accepted events soon) in
     let rows : rows_of read.ledger.rows ≡ w.rows = rows_values read.ledger.rows ∙ read.has.rows in
     record {
       ledger = read.ledger;

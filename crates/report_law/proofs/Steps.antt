@@ -87,10 +87,10 @@ module _ (t : ℕ) (w : World) (e : ℕ) (held : IsHeld t w.count (core w.book))
   deed_bounded : (d : Deed) → May w e d → Keeps t w.count (done w e d)
   deed_bounded Answers may = same (done w e Answers) refl refl
   deed_bounded (Own own) may = same (done w e (Own own)) refl refl
-  deed_bounded Stops may = record { held = with_runs w.book.slots None held.slots tt; rows = ((place, who), tt) }
+  deed_bounded Stops may = record { held = with_runs w.book.slots None held.slots tt; rows = (λ at. record { numbers = (at, (place, (who, tt))); paired = refl }, tt) }
   deed_bounded (Gives target) may =
       let other = there_other w e target may.other in
-      record { held = with_runs w.book.slots (handed target w.book.runner) held.slots (handed_runner w.count target w.book.runner other); rows = ((place, who, omega (arith, other, held.few)), tt) }
+      record { held = with_runs w.book.slots (handed target w.book.runner) held.slots (handed_runner w.count target w.book.runner other); rows = (λ at. record { numbers = (at, (place, (who, (omega (arith, other, held.few), tt)))); paired = refl }, tt) }
   deed_bounded (Allocates page words) may = same (done w e (Allocates page words)) refl refl
   deed_bounded (Frees page) may = record {
     held = with_backups (set_at e (unloaded page (w.book.backups e)) w.book.backups)
@@ -102,13 +102,13 @@ module _ (t : ℕ) (w : World) (e : ℕ) (held : IsHeld t w.count (core w.book))
   deed_bounded (Unbinds vpn) may = same (done w e (Unbinds vpn)) refl refl
   deed_bounded (Transfers target kind.Asynchronous) may =
       let other = there_other w e target may.reach.other in
-      record { held = with_runs w.book.slots (handed target w.book.runner) held.slots (handed_runner w.count target w.book.runner other); rows = ((place, who, omega (arith, other, held.few)), tt) }
+      record { held = with_runs w.book.slots (handed target w.book.runner) held.slots (handed_runner w.count target w.book.runner other); rows = (λ at. record { numbers = (at, (place, (who, (omega (arith, other, held.few), tt)))); paired = refl }, tt) }
   deed_bounded (Transfers target kind.Synchronous) may =
       let other = there_other w e target may.reach.other in
       record {
         held = with_runs _ (handed target w.book.runner) (in_slot target other) (handed_runner w.count target w.book.runner other);
         rows = (
-          (place, who, omega (arith, other, held.few)),
+          λ at. record { numbers = (at, (place, (who, (omega (arith, other, held.few), tt)))); paired = refl },
           (
             slot_small w.count w.book.time w.book.cursor (option_map (held_by target) (turn_slot w.book)) held.few (omega (arith, held.cursor, held.slot_count))
                 (handed_slot w.count target (turn_slot w.book) other (held.slots w.book.cursor)),

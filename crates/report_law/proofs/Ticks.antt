@@ -1,6 +1,6 @@
 -- Ticks, and whole runs.
 use Rattle.std.proofs.Common.{arith, refl, sym, ◌∙◌, subst, ◌≡◌, ◌<◌, ◌≤◌, ◌+◌, ℕ, zero, suc, List, [], ◌∷◌, map, length, true, ◌&&◌, Option, None, Some, IfSome}
-use Rattle.std.specs.Prelude.{nat_le, not, drop}
+use Rattle.std.specs.Prelude.{nat_le, drop}
 use Rattle.std.specs.List.{AllByRecursion, list_all}
 use Rattle.std.proofs.lemmas.Bool.{and_parts, cond_both, leb-true}
 use Rattle.aegis_limits.specs.declared.version.Version.{Version}
@@ -38,7 +38,7 @@ use Rattle.report_law.proofs.Turns.{timer_bounded, turn_bounded}
 
 -- what happens from outside
 packet_bounded : (t : ℕ) (w : World) (packet : List ℕ) (claim : Option ClaimValue) → IsHeld t w.count (core w.book) → length packet ≤ most_number → Keeps t w.count (arrives packet claim w)
-packet_bounded t w packet None held short = record { held = held; rows = (short, tt) }
+packet_bounded t w packet None held short = record { held = held; rows = (λ at. record { numbers = (at, (short, tt)); paired = refl }, tt) }
 packet_bounded t w packet (Some c) held short = record { held = held; rows = tt }
 
 signal_bounded : (t : ℕ) (w : World) (line : ℕ) (owner : Option ℕ) → IsHeld t w.count (core w.book) → Keeps t w.count (signals line owner w)
@@ -106,7 +106,7 @@ taking_bounded t w x held small = record {
     excess = held.excess;
     backups = λ i. set_each (ArePages w.book.page_count) x.env (drop 1 (w.book.backups x.env)) w.book.backups (all_drop (λ (p : ℕ). p < w.book.page_count) 1 (w.book.backups x.env) (held.backups x.env)) held.backups i;
   };
-  rows = (small, tt);
+  rows = (λ at. record { numbers = (at, (small.0, (small.1, (small.2, tt)))); paired = refl }, tt);
 }
 
 abbrev behind : List (World → Reply)

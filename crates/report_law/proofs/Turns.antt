@@ -1,5 +1,5 @@
 -- Turns and the timer.
-use Rattle.std.proofs.Common.{arith, ◌<◌, ◌≤◌, ◌+◌, ◌-◌, ◌%◌, ℕ, zero, suc, List, [], ◌∷◌, ◌++◌, map, Bool, true, false, Option, None, Some}
+use Rattle.std.proofs.Common.{arith, refl, ◌<◌, ◌≤◌, ◌+◌, ◌-◌, ◌%◌, ℕ, zero, suc, List, [], ◌∷◌, ◌++◌, map, Bool, true, false, Option, None, Some}
 use Rattle.std.specs.Prelude.{◌==◌, nat_lt, if◌then◌else◌}
 use Rattle.std.specs.List.{AllByRecursion}
 use Rattle.std.proofs.Math.Nat.{mod-lt}
@@ -71,7 +71,7 @@ turn_told n slots count (suc tries) cursor excess below there few =
 
 pays_small : (t n : ℕ) (w : World) (pays : List Turn) → IsHeld t n (core w.book) → AllByRecursion (IsTurn n w.book.slot_count) pays → AllSmall (map (pay_row w.book.time) pays)
 pays_small t n w [] held all = tt
-pays_small t n w (p ∷ pays) held ((place, who), all) = ((omega (arith, place, held.slot_count), omega (arith, who, held.few)), pays_small t n w pays held all)
+pays_small t n w (p ∷ pays) held ((place, who), all) = (λ at. record { numbers = (at, (omega (arith, place, held.slot_count), (omega (arith, who, held.few), tt))); paired = refl }, pays_small t n w pays held all)
 
 taken : (t : ℕ) (w : World) (told : WholeTurn) → IsHeld t w.count (core w.book) → IsToldWithin w.count w.book.slot_count told → (o : Option Turn) → IfTurn w.count w.book.slot_count o → Keeps t w.count (take_turn w told o)
 taken t w told held within None is = record { held = held; rows = tt }
@@ -89,7 +89,7 @@ taken t w told held within (Some x) (place, who) = record {
     excess = within.excess;
     backups = held.backups;
   };
-  rows = all_append IsSmall (map (pay_row w.book.time) told.pays) _ (pays_small t w.count w told.pays held within.pays) ((omega (arith, place, held.slot_count), omega (arith, who, held.few)), tt);
+  rows = all_append IsSmall (map (pay_row w.book.time) told.pays) _ (pays_small t w.count w told.pays held within.pays) (λ at. record { numbers = (at, (omega (arith, place, held.slot_count), (omega (arith, who, held.few), tt))); paired = refl }, tt);
 }
 
 pub turn_bounded : (t : ℕ) (w : World) → IsHeld t w.count (core w.book) → Keeps t w.count (turn w)
@@ -127,7 +127,7 @@ death_bounded t w e excess held few there = record {
     excess = few;
     backups = λ i. set_each (AllByRecursion (λ (page : ℕ). page < w.book.page_count)) e [] w.book.backups tt held.backups i;
   };
-  rows = ((omega (arith, held.cursor, held.slot_count), omega (arith, there, held.few)), released_small w.count w.book.time e w.book.slots w.book.slot_count held.few held.slot_count held.slots);
+  rows = (λ at. record { numbers = (at, (omega (arith, held.cursor, held.slot_count), (omega (arith, there, held.few), tt))); paired = refl }, released_small w.count w.book.time e w.book.slots w.book.slot_count held.few held.slot_count held.slots);
 }
 
 -- the timer
@@ -170,17 +170,17 @@ module _ (t : ℕ) (w : World) (r : Runner) (held : IsHeld t w.count (core w.boo
   killed =
       let v = after (after w (owes_more r.env w)) (tells r.env Killed (after w (owes_more r.env w))) in
       let dies = death_bounded t v r.env w.book.excess held buried there in
-      record { held = dies.held; rows = ((place, who, owed_more), all_append IsSmall ((death v r.env).rows ++ []) [] (all_append IsSmall (death v r.env).rows [] dies.rows tt) tt) }
+      record { held = dies.held; rows = (λ at. record { numbers = (at, (place, (who, (owed_more, tt)))); paired = refl }, all_append IsSmall ((death v r.env).rows ++ []) [] (all_append IsSmall (death v r.env).rows [] dies.rows tt) tt) }
 
   overs : (excess : ℕ) → w.book.excess r.env + 1 ≤ excess_limit → Keeps t w.count (timer_reply r (answer.Over excess) w)
   overs excess small = record {
     held = with_held (Some (grace_of w r.env)) more there (λ i. set_each (λ (x : ℕ). x ≤ excess_limit) r.env (w.book.excess r.env + 1) w.book.excess small held.excess i);
-    rows = ((place, who, owed_more), tt);
+    rows = (λ at. record { numbers = (at, (place, (who, (owed_more, tt)))); paired = refl }, tt);
   }
 
   ends : (has : Bool) → (p : Phase) → Keeps t w.count (timer_reply r (timer_at_end p has (w.book.excess r.env)) w)
-  ends true phase.Own = record { held = with_held (Some (grace_of w r.env)) w.book.excess there held.excess; rows = ((place, who), tt) }
-  ends false phase.Own = record { held = with_held None w.book.excess tt held.excess; rows = ((place, who), tt) }
+  ends true phase.Own = record { held = with_held (Some (grace_of w r.env)) w.book.excess there held.excess; rows = (λ at. record { numbers = (at, (place, (who, tt))); paired = refl }, tt) }
+  ends false phase.Own = record { held = with_held None w.book.excess tt held.excess; rows = (λ at. record { numbers = (at, (place, (who, tt))); paired = refl }, tt) }
   ends has phase.Grace =
       cond_both (nat_lt excess_limit (w.book.excess r.env + 1)) answer.Kill (answer.Over (w.book.excess r.env + 1)) (λ (a : Timer). Keeps t w.count (timer_reply r a w))
       (λ many. killed) (λ few. overs (w.book.excess r.env + 1) (ltb-false excess_limit (w.book.excess r.env + 1) few))

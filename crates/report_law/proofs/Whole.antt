@@ -1,24 +1,24 @@
 -- A whole report is read as its world's ledger.
-use Rattle.std.proofs.Common.{arith, refl, sym, ◌∙◌, ap, subst, ◌≡◌, ◌≤◌, ◌+◌, ℕ, zero, suc, List, [], ◌∷◌, ◌++◌, append_assoc, Bool, true, false, None, Result, Ok}
+use Rattle.std.proofs.Common.{arith, refl, sym, ◌∙◌, ap, subst, ◌≡◌, ◌≤◌, ◌+◌, ℕ, zero, suc, List, [], ◌∷◌, ◌++◌, append_assoc, map, Bool, true, false, Option, None, Result, Ok}
 use Rattle.std.specs.Prelude.{codes, count_by}
 use Rattle.std.specs.List.{AllByRecursion, flat_map}
 use Rattle.std.proofs.lemmas.Bool.{cond-true}
 use Rattle.std.proofs.lemmas.List.{append-nil}
 use Rattle.boot_image.specs.ImageValue.{name_text}
 use Rattle.kernel_journal.specs.declared.row.Row.{Row}
-use Rattle.kernel_journal.specs.declared.row.Row.TheVariants as row
 use Rattle.kernel_journal.specs.declared.row.RunEnd.{RunEnd}
 use Rattle.kernel_journal.specs.declared.row.RunEnd.TheVariants as end
+use Rattle.kernel_journal.specs.RowTable.{RowsAreReadBack, name_of, numbers_of}
 use Rattle.line_text.specs.declared.failure.LineFault.{LineFault}
 use Rattle.line_text.specs.Outcome.{◌>>=◌}
 use Rattle.line_text.specs.Statements.{end_of}
 use Rattle.line_text.specs.Text.{dec_text}
-use Rattle.line_text.specs.WrittenLine.{line, spaced}
+use Rattle.line_text.specs.WrittenLine.{line, or_dash, spaced}
 use Rattle.world_model.specs.Table.{listed}
 use Rattle.world_model.specs.World.{World}
 use Rattle.run_model.specs.Excess.{is_over_of, is_pay_of, is_run_of}
 use Rattle.run_report.specs.Report.{end_line, end_text, env_text, for_each, numbers_line, report_text, row_line, sum_line}
-use Rattle.ledger_rules.specs.LedgerState.{LedgerState}
+use Rattle.ledger_audit.specs.LedgerState.{LedgerState}
 use Rattle.ledger_text.specs.declared.entry.Entry.TheVariants as entry
 use Rattle.ledger_text.specs.declared.fault.LedgerWhy.{LedgerWhy}
 use Rattle.ledger_text.specs.declared.kind.LineKind.{LineKind}
@@ -35,26 +35,18 @@ use Rattle.report_law.specs.ReportLaw.{tally_of, values_of}
 use Rattle.report_law.proofs.Bytes.{AtLeast, both}
 use Rattle.report_law.proofs.Cuts.{line_then, words_cut, words_plain}
 use Rattle.report_law.proofs.Numbers.{if_all, then_read}
-use Rattle.report_law.proofs.Reading.{AreSmall, At, Has, Known, rest_is, row_text, rows_at, step_at, values_more, weaker, with_rows}
+use Rattle.report_law.proofs.Reading.{AreWithin, At, Has, Known, rest_is, row_text, rows_at, step_at, values_more, weaker, with_rows}
 use Rattle.report_law.proofs.Rows.{dec_solid, env_is, env_spells, known_line, other_is, other_spells, solid_plain, time_is, time_spells}
 use Rattle.report_law.proofs.Sections.{envs_pass}
 
 -- rows as they are written
+numbers_are : (numbers : List (Option ℕ)) → flat_map (λ n. spaced (or_dash n)) numbers ≡ flat_map spaced (map or_dash numbers)
+numbers_are [] = refl
+numbers_are (n ∷ numbers) = ap (λ (text : List ℕ). spaced (or_dash n) ++ text) (numbers_are numbers)
+
 row_is : (r : Row) → row_line r ≡ row_text r
 unfolding numbers_line
-row_is (row.Own t slot owner holder) = refl
-row_is (row.Run t slot e) = refl
-row_is (row.Pay t slot e) = refl
-row_is (row.Give t slot from to) = refl
-row_is (row.Async t slot from to) = refl
-row_is (row.Sync t slot from to) = refl
-row_is (row.End t slot e) = refl
-row_is (row.Over t slot e excess) = refl
-row_is (row.Stop t slot e) = refl
-row_is (row.Dead t slot e) = refl
-row_is (row.Asked t e outstanding deadline) = refl
-row_is (row.Take t e page backup) = refl
-row_is (row.Unclaimed t size) = refl
+row_is r = ap (λ (text : List ℕ). (name_of r ++ text) ++ 10 ∷ []) (numbers_are (numbers_of r))
 
 rows_are : (rows : List Row) → flat_map row_line rows ≡ flat_map row_text rows
 rows_are [] = refl
@@ -204,7 +196,7 @@ pub record IsShown (w : World) : Type 0 where
   pub named : (e : ℕ) → AtLeast 32 (name_text (w.solos e).name)
   pub some : 1 ≤ w.count
   pub few : w.count ≤ 32
-  pub rows : AreSmall w.rows
+  pub rows : AreWithin w.rows
   pub counts : (e : ℕ) → AreFew w.rows e
 
 in_parts : (a b c d e f : List ℕ) → ((((a ++ b) ++ c) ++ d) ++ e) ++ f ≡ a ++ (b ++ (c ++ (d ++ (e ++ f))))
@@ -212,10 +204,10 @@ in_parts a b c d e f =
     append_assoc (((a ++ b) ++ c) ++ d) e f ∙ append_assoc ((a ++ b) ++ c) d (e ++ f) ∙ append_assoc (a ++ b) c (d ++ (e ++ f)) ∙ append_assoc a b (c ++ (d ++ (e ++ f)))
 
 -- the parts of a report, one after another
-parts_read : (last : ℕ) (from : Result LedgerValue (LineFault LedgerWhy)) (w : World) (how : RunEnd) → IsShown w
+parts_read : RowsAreReadBack → (last : ℕ) (from : Result LedgerValue (LineFault LedgerWhy)) (w : World) (how : RunEnd) → IsShown w
     → At last from is_kind_none nothing (line (codes "aegis" ∷ codes "run" ∷ []) ++ (end_line w how ++ (for_each (env_text w) w.count ++ (flat_map row_line w.rows ++ (for_each (sum_line w.rows) w.count ++ line (codes "done" ∷ []))))))
     → ReadsTo from (known_of w how)
-parts_read last from w how shown at =
+parts_read back last from w how shown at =
     let sums = for_each (sum_line w.rows) w.count in
     let done = line (codes "done" ∷ []) in
     let rows = flat_map row_line w.rows in
@@ -227,12 +219,12 @@ parts_read last from w how shown at =
     let ready : At last from before_row k (flat_map row_text w.rows ++ (sums ++ done)) =
     rest_is last from before_row k (rows ++ (sums ++ done)) (flat_map row_text w.rows ++ (sums ++ done)) (ap (λ (xs : List ℕ). xs ++ (sums ++ done)) (rows_are w.rows))
     (weaker last from ends_env before_row k (rows ++ (sums ++ done)) env_row shows) in
-    let told = weaker last from before_row before_sum (with_rows k w.rows) (sums ++ done) row_sum (rows_at last from k w.rows (sums ++ done) shown.rows ready) in
+    let told = weaker last from before_row before_sum (with_rows k w.rows) (sums ++ done) row_sum (rows_at back last from k w.rows (sums ++ done) shown.rows ready) in
     done_at last from (known_of w how) (sums_at last from (with_rows k w.rows) w.rows w.count done shown.few shown.counts told)
 
-pub report_read : (w : World) (how : RunEnd) → IsShown w → ReadsTo (ledger_read (report_text w how)) (known_of w how)
+pub report_read : RowsAreReadBack → (w : World) (how : RunEnd) → IsShown w → ReadsTo (ledger_read (report_text w how)) (known_of w how)
 unfolding report_text
-report_read w how shown =
+report_read back w how shown =
     let text = report_text w how in
     let sums = for_each (sum_line w.rows) w.count in
     let done = line (codes "done" ∷ []) in
@@ -240,7 +232,7 @@ report_read w how shown =
     let envs = for_each (env_text w) w.count in
     let title = line (codes "aegis" ∷ codes "run" ∷ []) in
     let parts = title ++ (end_line w how ++ (envs ++ (rows ++ (sums ++ done)))) in
-    parts_read (end_of text) (ledger_read text) w how shown
+    parts_read back (end_of text) (ledger_read text) w how shown
     (rest_is (end_of text) (ledger_read text) is_kind_none nothing text parts (in_parts title (end_line w how) envs rows sums done) (begin text))
 
 -- and that is a ledger of the run, whose sums count right

@@ -2,6 +2,7 @@
 ghost use Rattle.report_law.specs.ReportLaw.{ReportsAreClean, ReportsAreRead};
 
 use call_verdicts::law_granted;
+use kernel_journal::law_rows_are_read_back;
 use ledger_law::{law_ledger, law_runs_are_clean};
 use run_model::law_alone;
 use sharing_law::law_licence;
@@ -12,6 +13,7 @@ use sharing_law::law_licence;
 pub fn law_reports_are_read()
     ensures { ReportsAreRead }
 {
+    law_rows_are_read_back();
     law_granted();
     law_alone();
     law_licence();
