@@ -11,7 +11,7 @@ from source import DATA, JUMPS, Source
 HEADER, SECTION_HEADER, SYMBOL = 52, 40, 16  # bytes
 PROGBITS, SYMTAB, STRTAB = 1, 2, 3
 WRITE, ALLOC, RUN = 1, 2, 4
-FUNCTION, OBJECT, GLOBAL = 2, 1, 16
+NO_TYPE, OBJECT, FUNCTION, GLOBAL = 0, 1, 2, 16
 O32 = 0x1000  # the flag of the calling convention
 # What the one entry of .debug_info has, as DWARF's numbers of attributes and forms: name, directory, producer, language, lines, first
 # address, end.
@@ -84,14 +84,17 @@ def functions(source: Source) -> List[str]:
 
 
 def symbol_tables(source: Source) -> Tuple[bytes, bytes]:
-    """The symbols of functions and variables, and their names."""
+    """The symbols of labels, and their names. A function has its size, and a label within it has none: so an address within a function is
+    the function's for a debugger, after a label too, and a breakpoint at the label is found by its name."""
     names, table = b"\0", bytes(SYMBOL)
-    code = functions(source)
+    code, last = functions(source), source.instructions()[-1]
+    starts = sorted(source.labels[name].address for name in code)
+    ends = dict(zip(starts, [*starts[1:], last.address + last.size]))
     for name, it in source.labels.items():
-        if name in code or not it.in_text:
-            kind, part = (OBJECT, 2) if it.address >= DATA else (FUNCTION, 1)
-            table += struct.pack("<IIIBBH", len(names), it.address, 0, GLOBAL | kind, 0, part)
-            names += name.encode() + b"\0"
+        kind, part = (OBJECT, 2) if it.address >= DATA else (FUNCTION if name in code else NO_TYPE, 1)
+        size = ends[it.address] - it.address if kind == FUNCTION else 0
+        table += struct.pack("<IIIBBH", len(names), it.address, size, GLOBAL | kind, 0, part)
+        names += name.encode() + b"\0"
     return table, names
 
 
