@@ -7,7 +7,7 @@ from typing import Dict, NamedTuple, Optional, Sequence, Tuple
 CODE, VALUE, FIRST_ARGUMENT = 2, 3, 4  # registers
 ANY = 0xFFFFFFFF
 YIELD, PUT, EXIT, ALLOC, FREE, RECAP, BIND, UNBIND, CONTEXT = range(9)
-TRANSFER, CLAIM, LINE, BACKUP = 10, 14, 17, 18
+TRANSFER, CLAIM, UNCLAIM, HANDLER, LINE, BACKUP = 10, 14, 15, 16, 17, 18
 
 ANSWERS = ("granted NoPage Taken NoneFree NotOwner NoRight BadVpn Guaranteed NoEnv NotAccepted NoSlice SlotTaken NotHolder BadFilter Overlap "
            "NoFilter BadHandler LineTaken ConsoleFull Full BadCall BadPointer Again").split()
@@ -31,8 +31,8 @@ CALLS: Dict[int, Call] = {
     BIND: Call("bind", ("vpn", "page", "writable", "words", "words")), UNBIND: Call("unbind", ("vpn",)),
     CONTEXT: Call("context", ("kind", "address")), 9: Call("accept", ("mask",)), TRANSFER: Call("transfer", ("env", "kind")),
     11: Call("take", ("slot",)), 12: Call("drop", ("slot",)), 13: Call("query", ("question", "which")),
-    CLAIM: Call("claim", ("address", "atoms", "page")), 15: Call("unclaim", ("claim",)),
-    16: Call("handler", ("claim", "address", "length")), LINE: Call("line", ("line", "taken")), BACKUP: Call("backup", ("page",)),
+    CLAIM: Call("claim", ("address", "atoms", "page")), UNCLAIM: Call("unclaim", ("claim",)),
+    HANDLER: Call("handler", ("claim", "address", "length")), LINE: Call("line", ("line", "taken")), BACKUP: Call("backup", ("page",)),
     19: Call("send", ("address", "length")), 20: Call("self"), 21: Call("clock"),
 }
 

@@ -11,9 +11,10 @@ from limits import PAGE_SIZE, VERSIONS
 
 AT, V0, A0, K0, K1, SP, HI, LO = 1, 2, 4, 26, 27, 29, 32, 33
 FIRST_STACK = 0x7FFEFFF0
-NAMES = [f"${name}" for name in ("zero at v0 v1 a0 a1 a2 a3 t0 t1 t2 t3 t4 t5 t6 t7 s0 s1 s2 s3 s4 s5 s6 s7 t8 t9 k0 k1 gp sp fp ra").split()]
+NAMES = [f"${number} {name}" for number, name in enumerate(
+    "zero at v0 v1 a0 a1 a2 a3 t0 t1 t2 t3 t4 t5 t6 t7 s0 s1 s2 s3 s4 s5 s6 s7 t8 t9 k0 k1 gp sp fp ra".split())]
 NAMES += ["hi", "lo"]
-PC, NEXT, SLOT, LINES, HAS_CLAIM, CONSOLE = "pc", "next", "slot", "lines", "claim", "console"
+PC, NEXT, SLOT, LINES, HAS_CLAIM, CLAIMS, CONSOLE = "pc", "next", "slot", "lines", "claim", "claims", "console"
 # Whether there may be bindings that aren't known, and whether a store went to an address that isn't.
 IS_VAGUE, IS_LOST = "vague", "lost"
 EXCEPTIONS, STARTS, ENDS, ASYNCHRONOUS, SYNCHRONOUS = range(5)
@@ -43,6 +44,15 @@ class Binding(NamedTuple):
     is_writable: bool
 
 
+class Claim(NamedTuple):
+    """A claim of its own: its number, the page of its ring, its filter (None where that isn't known), and whether it has a handler."""
+
+    number: int
+    page: Optional[int]
+    atoms: Optional[bytes]
+    is_handled: bool = False
+
+
 class Unknown(Exception):
     """Why a byte isn't known, or that no page is there."""
 
@@ -55,7 +65,7 @@ class Knowledge:
         self.registers: List[Optional[int]] = [0] * 34
         self.registers[SP] = FIRST_STACK
         self.cells: Dict[Any, Any] = {PC: boot.entry, NEXT: boot.entry + 4, SLOT: False, LINES: frozenset(), HAS_CLAIM: False, CONSOLE: 0}
-        self.cells.update({IS_VAGUE: False, IS_LOST: False})
+        self.cells.update({CLAIMS: (), IS_VAGUE: False, IS_LOST: False})
         self.cells.update({("handler", kind): 0 for kind in range(5)})
         self.changes: List[Change] = []
 
@@ -146,6 +156,15 @@ class Knowledge:
         except Unknown:
             return None
 
+    def read(self, address: Optional[int], size: Optional[int]) -> Optional[bytes]:
+        """Bytes from an address on, or None where one of them isn't known."""
+        if address is None or size is None:
+            return None
+        try:
+            return bytes(self.byte(address + at & 0xFFFFFFFF) for at in range(size))
+        except Unknown:
+            return None
+
     def put_bytes(self, page: PageKey, place: int, data: Iterable[Optional[int]]) -> None:
         for at, value in enumerate(data, place):
             self.put(("byte", page, at), value)
@@ -157,7 +176,8 @@ class Knowledge:
             place += 4
 
     def lose_page(self, number: int) -> None:
-        """A page of its own is none any more, nor bound."""
+        """A page of its own is none any more, nor bound, nor a ring."""
+        self.put(CLAIMS, tuple(it for it in self.cells[CLAIMS] if it.page != number))
         page = self.cells.get(("own", number))
         if page:
             self.put(("own", number), None)

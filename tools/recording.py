@@ -8,16 +8,17 @@ from __future__ import annotations
 
 import re
 from dataclasses import dataclass, field
-from typing import Callable, Dict, List, NamedTuple, Optional, Tuple
+from typing import Any, Callable, Dict, List, NamedTuple, Optional, Tuple, Union
 
 import kernel_calls
 from boot_memory import Image
 from instructions import access, cause, is_call, is_jump, is_store, stored, target
 from kernel_calls import CODE, FIRST_ARGUMENT, VALUE, answered, asked
-from knowledge import (ASYNCHRONOUS, AT, CONSOLE, CONTEXT, END_AREA, ENDS, ENTRY_AREA, EXCEPTION_AREA, EXCEPTIONS, HAS_CLAIM, HI, IS_LOST, IS_VAGUE, K0, K1,
-                       LINES, LO, MOST_RECORDS, NEXT, NO_BACKUP, PC, POST_LINES, POST_OUTSTANDING, POST_PACKETS, POST_TAKINGS, RECORDS, SLOT,
-                       START_AREA, STARTS, Binding, Change, Knowledge)
+from knowledge import (ASYNCHRONOUS, AT, CLAIMS, CONSOLE, CONTEXT, END_AREA, ENDS, ENTRY_AREA, EXCEPTION_AREA, EXCEPTIONS, HAS_CLAIM, HI, IS_LOST, IS_VAGUE, K0,
+                       K1, LINES, LO, MOST_RECORDS, NEXT, NO_BACKUP, PC, POST_LINES, POST_OUTSTANDING, POST_PACKETS, POST_TAKINGS, RECORDS, SLOT,
+                       START_AREA, STARTS, Binding, Change, Claim, Knowledge)
 from limits import PAGE_SIZE
+from packet_filters import ATOM_SIZE, matches
 from report import Report
 
 LINE = re.compile(r"(\d+) ([0-9a-f]{8}) ([0-9a-f]{8}|-{8}) (.+?)((?: (?:\$\d+|hi|lo) [0-9a-f]{8})*)( dead)?")
@@ -68,6 +69,14 @@ def read_row(line: str) -> Row:
                {PLACES[name]: int(value, 16) for name, value in zip(words[::2], words[1::2])}, bool(dead))
 
 
+class Note(NamedTuple):
+    """Something that happened to an environment between two of its steps: its kind, its tick, and what more there is to say."""
+
+    kind: str
+    tick: int
+    words: Tuple = ()
+
+
 @dataclass
 class Step:
     """A step of the environment."""
@@ -82,6 +91,7 @@ class Step:
     code: Optional[int] = None  # of the answer
     console: int = 0  # bytes that were put, with this step's
     cause: Optional[int] = None  # the code of the exception that it raised, where a handler took it
+    notes: List[Note] = field(default_factory=list)  # what happened after the step before
 
 
 @dataclass
@@ -92,12 +102,14 @@ class Recording:
     steps: List[Step]
     tail: List[Change]
     report: Report
+    notes: List[Note]  # what happened after the last step
     boot: Callable[[], Knowledge] = field(repr=False, default=None)
 
 
 # What happens, in the order within a tick.
 BEFORE, TURN, STEP, GIVEN, END = range(5)
 TRANSFERS = ("async", "sync")  # by kind
+Event = Tuple[int, str, Union[int, bytes]]  # of the schedule: tick, kind, and a packet's bytes or the line
 
 
 class Happening(NamedTuple):
@@ -119,8 +131,8 @@ def callers(report: Report, number: int) -> List[int]:
     return found
 
 
-def happenings(report: Report, traces: Dict[int, Trace], events: List[Tuple[int, str, int]]) -> List[Happening]:
-    """All that concerns the environments with these traces, in order. Events are (tick, kind, number)."""
+def happenings(report: Report, traces: Dict[int, Trace], events: List[Event]) -> List[Happening]:
+    """All that concerns the environments with these traces, in order."""
     found: List[Happening] = []
 
     def add(tick: int, phase: int, env: int, what: str, *words) -> None:
@@ -128,17 +140,16 @@ def happenings(report: Report, traces: Dict[int, Trace], events: List[Tuple[int,
             found.append(Happening(tick, phase, len(found), env, what, words))
 
     for tick, kind, which in events:
-        if tick < report.head.time:  # behind its end nothing happens
+        if tick < report.head.time:  # after its end nothing happens
             for env in traces:
                 add(tick, BEFORE, env, kind, which)
     for it in report.marks:
         words = it.row.split()
         if it.kind in ("asked", "take"):
             add(it.time, BEFORE, it.env, it.kind, *words[3:])
-        elif it.kind == "give":
-            add(it.time, GIVEN, int(words[4]), "start")
-        elif it.kind in TRANSFERS:
-            add(it.time, GIVEN, int(words[4]), "enter", int(words[3]), TRANSFERS.index(it.kind))
+        elif it.kind == "give" or it.kind in TRANSFERS:
+            add(it.time, GIVEN, int(words[3]), "gives", it.kind, int(words[4]))
+            add(it.time, GIVEN, int(words[4]), *(("given", int(words[3])) if it.kind == "give" else ("enter", int(words[3]), TRANSFERS.index(it.kind))))
         elif it.kind == "end":
             add(it.time, END, it.env, "end")
     for piece in report.slices:
@@ -153,11 +164,12 @@ def happenings(report: Report, traces: Dict[int, Trace], events: List[Tuple[int,
 class Follower:
     """Follows the environments of some traces through a run."""
 
-    def __init__(self, image: Image, report: Report, traces: Dict[int, Trace], events: List[Tuple[int, str, int]]):
+    def __init__(self, image: Image, report: Report, traces: Dict[int, Trace], events: List[Event]):
         self.image, self.report, self.traces = image, report, traces
         self.known = {env: self.boot(env) for env in traces}
         self.handed: Dict[int, List[Optional[int]]] = {}  # the registers with which an environment last called
         self.steps: Dict[int, List[Step]] = {env: [] for env in traces}
+        self.notes: Dict[int, List[Note]] = {env: [] for env in traces}  # since its last step
         self.ends = {(it.env, it.time) for it in report.marks if it.kind == "end"}
         self.turns = {(piece.env, piece.start) for piece in report.slices}
         self.stepped, self.raised, self.epc = (-1, -1), False, 0  # of the last step
@@ -172,23 +184,32 @@ class Follower:
         for it in self.order:
             known = self.known[it.env]
             getattr(self, it.what)(known, it.tick, *it.words)
-        return Recording(number, self.steps[number], self.known[number].taken(), self.report, lambda: self.boot(number))
+        return Recording(number, self.steps[number], self.known[number].taken(), self.report, self.notes[number], lambda: self.boot(number))
 
     # What the kernel does between steps
 
-    def packet(self, known: Knowledge, _tick: int, _length: int) -> None:
+    def note(self, known: Knowledge, kind: str, tick: int, *words: Any) -> None:
+        self.notes[known.number].append(Note(kind, tick, words))
+
+    def packet(self, known: Knowledge, tick: int, data: bytes) -> None:
         if known.cells[HAS_CLAIM]:
             known.put_context(POST_PACKETS, None, None)
+        claim = next((it for it in known.cells[CLAIMS] if it.atoms is None or matches(it.atoms, data)), None)
+        if claim:
+            self.note(known, "packet", tick, len(data), claim)
 
-    def line(self, known: Knowledge, _tick: int, number: int) -> None:
+    def line(self, known: Knowledge, tick: int, number: int) -> None:
         if number in known.cells[LINES]:
+            self.note(known, "line", tick, number)
             word = known.word(PAGE_SIZE + POST_LINES)
             known.put_context(POST_LINES, None if word is None else word | 1 << number)
 
-    def asked(self, known: Knowledge, _tick: int, outstanding: str, deadline: str) -> None:
+    def asked(self, known: Knowledge, tick: int, outstanding: str, deadline: str) -> None:
+        self.note(known, "asked", tick, int(outstanding), int(deadline))
         known.put_context(POST_OUTSTANDING, int(outstanding), int(deadline))
 
-    def take(self, known: Knowledge, _tick: int, page: str, backup: str) -> None:
+    def take(self, known: Knowledge, tick: int, page: str, backup: str) -> None:
+        self.note(known, "take", tick, int(page))
         place = known.word(PAGE_SIZE + POST_TAKINGS)
         if place is None:
             known.put_bytes(CONTEXT, RECORDS, [None] * 8 * MOST_RECORDS)
@@ -199,19 +220,29 @@ class Follower:
             known.share(int(backup))
         known.lose_page(int(page))
 
-    def start(self, known: Knowledge, _tick: int) -> None:
+    def gives(self, known: Knowledge, tick: int, kind: str, target: int) -> None:
+        self.note(known, "gives", tick, kind, target)
+
+    def given(self, known: Knowledge, tick: int, giver: int) -> None:
+        """Another gives it the rest of a slice."""
+        self.note(known, "given", tick, giver)
+        self.start(known, tick + 1)
+
+    def start(self, known: Knowledge, tick: int) -> None:
         """A slice starts."""
         handler, resume = known.cells["handler", STARTS], known.restart()
         if handler == 0:
             known.continue_at(resume)
             return
+        self.note(known, "start", tick, handler)
         is_known = handler is not None
         known.put_context(START_AREA, *(known.registers[K0], resume) if is_known else (None, None))
         known.put(K0, resume if is_known else None)
         known.continue_at(handler)
 
-    def enter(self, known: Knowledge, _tick: int, caller: int, kind: int) -> None:
+    def enter(self, known: Knowledge, tick: int, caller: int, kind: int) -> None:
         """A transfer enters it, with the caller's registers."""
+        self.note(known, "enter", tick, caller, kind, known.cells["handler", ASYNCHRONOUS + kind])
         known.put_context(ENTRY_AREA, *known.registers[1:], known.restart(), caller, kind)
         for register, value in enumerate(self.handed.get(caller, [None] * 34)):
             known.put(register, value)
@@ -220,6 +251,7 @@ class Follower:
     def end(self, known: Knowledge, tick: int) -> None:
         """It is told of the end of its slice, in the tick in which another gave it that: of its own step `step` knows it."""
         if self.stepped != (known.number, tick):
+            self.note(known, "end", tick, known.cells["handler", ENDS])
             resume = known.restart()
             self.tell_end(known, resume, known.registers[K0])
             known.put(K0, resume)
@@ -234,7 +266,8 @@ class Follower:
         self.stepped, self.raised = (known.number, tick), False
         if known.cells[PC] != row.pc:
             known.continue_at(row.pc)
-        step = Step(row, known.cells[SLOT], known.taken(), [])
+        step = Step(row, known.cells[SLOT], known.taken(), [], notes=self.notes[known.number])
+        self.notes[known.number] = []
         before = list(known.registers)
         self.steps[known.number].append(step)
         ends = (known.number, tick) in self.ends
@@ -249,6 +282,7 @@ class Follower:
             if self.raised and known.registers[AT] is not None:
                 step.cause = known.registers[AT] >> 2 & 31
         if ends and not row.is_dead:
+            self.note(known, "end", tick, known.cells["handler", ENDS])
             goes_to_k0 = re.match(r"\S+ \$26\b", row.text) and not is_store(row.word or 0)
             between = None if goes_to_k0 else self.epc if self.raised else before[K0]
             self.tell_end(known, known.registers[K0], between)
@@ -348,8 +382,18 @@ class Follower:
         elif number == kernel_calls.UNBIND and value and first is not None:
             known.put(("row", first % known.rows), None)
         elif number == kernel_calls.CLAIM:
-            known.share(third)
-            known.put(HAS_CLAIM, True)
+            self.claim(known, third, known.read(first, None if second is None else second * ATOM_SIZE), value)
+        elif number == kernel_calls.UNCLAIM:
+            known.put(CLAIMS, tuple(it for it in known.cells[CLAIMS] if it.number != first))
+        elif number == kernel_calls.HANDLER:
+            known.put(CLAIMS, tuple(it._replace(is_handled=it.is_handled or it.number == first) for it in known.cells[CLAIMS]))
         elif number == kernel_calls.LINE and first is not None:
             lines = known.cells[LINES]
             known.put(LINES, lines | {first} if second else lines - {first})
+
+    def claim(self, known: Knowledge, page: Optional[int], atoms: Optional[bytes], number: Optional[int]) -> None:
+        """A claim was made, into a page."""
+        known.share(page)
+        known.put(HAS_CLAIM, True)
+        if number is not None:
+            known.put(CLAIMS, (*known.cells[CLAIMS], Claim(number, page, atoms)))

@@ -3,12 +3,13 @@
 from __future__ import annotations
 
 import re
-from typing import Iterable, Iterator, List, Optional, Tuple
+from bisect import bisect_right
+from typing import Callable, Dict, Iterable, Iterator, List, Optional, Tuple
 
 from instructions import is_store
-from knowledge import K1, NAMES, Change, Knowledge, Unknown
+from knowledge import K1, NAMES, Change, Claim, Knowledge, Unknown
 from places import Places
-from recording import Step
+from recording import TRANSFERS, Note, Step
 from report import CAUSES, Environment, Head, Report
 from shown import shown
 from source import without_comment
@@ -30,14 +31,14 @@ def number_shown(value: Optional[int]) -> str:
 
 
 def registers_changed(changes: Iterable[Change]) -> List[str]:
-    """The registers that differ behind some changes, by their names."""
+    """The registers that differ after some changes, by their names."""
     last = {it.key: it.new for it in changes if isinstance(it.key, int)}
     first = {it.key: it.old for it in reversed(list(changes)) if isinstance(it.key, int)}
     return [f"{NAMES[key]} = {number_shown(value)}" for key, value in sorted(last.items()) if value != first[key]]
 
 
 def bytes_stored(step: Step, known: Knowledge, places: Places) -> List[str]:
-    """What a store put, as the word or the bytes at its address. `known` is what is known behind the step."""
+    """What a store put, as the word or the bytes at its address. `known` is what is known after the step."""
     if step.row.word is None or not is_store(step.row.word):
         return []
     put = [it for it in step.own if isinstance(it.key, tuple) and it.key[0] == "byte" and it.key[1] != ("vpn", 1)]
@@ -68,7 +69,7 @@ def statement(step: Step, places: Places) -> str:
 
 
 def step_line(step: Step, known: Knowledge, places: Places) -> str:
-    """A step: tick, address, label, source, what a call asked and was answered, and what changed. `known` is what is known behind it."""
+    """A step: tick, address, label, source, what a call asked and was answered, and what changed. `known` is what is known after it."""
     row = step.row
     effects = [step.asked + (f" = {step.answered}" if step.answered else "")] if step.asked else []
     effects += [exception_shown(step, known)] if step.cause is not None else []
@@ -85,37 +86,81 @@ def exception_shown(step: Step, known: Knowledge) -> str:
     return f"exception {EXCEPTIONS.get(step.cause, '?')} ({step.cause}){where}, to handler"
 
 
-def between_lines(report: Report, env: int, before: Optional[int], tick: int) -> List[str]:
-    """What happened between two steps of an environment: who ran meanwhile, what it was asked for, and what was taken from it. Before
-    the first step there is no tick."""
-    first = 0 if before is None else before + 1
-    lines = []
-    for it in report.marks:
-        if it.env == env and first <= it.time <= tick and it.kind in ("asked", "take"):
-            words = it.row.split()
-            lines.append(f"-- tick {it.time}: {words[3]} page{'' if words[3] == '1' else 's'} asked for until tick {words[4]} --" if it.kind == "asked"
-                         else f"-- tick {it.time}: page {words[3]} was taken --")
-    if first == tick:
-        return lines
-    others = [it for it in report.slices if it.env != env and it.start < tick and it.end > first]
-    ran = [f"environment {it.env} ran {max(it.start, first)} to {min(it.end, tick) - 1}" for it in others[:MOST_OTHERS]]
-    more = [f"and others until {tick - 1}"] if len(others) > MOST_OTHERS else []
-    stopped = [] if before is None else [f"stopped in tick {before}"]
-    return [f"-- {'; '.join([*stopped, ', '.join(ran + more)])} --" if ran else f"-- {stopped[0] if stopped else 'nobody ran'} --", *lines]
+class Meanwhile:
+    """Who ran while an environment didn't."""
+
+    def __init__(self, report: Report, env: int):
+        self.slices = [it for it in report.slices if it.env != env and it.start < it.end]
+        self.ends = [it.end for it in self.slices]
+
+    def line(self, before: Optional[int], tick: int) -> List[str]:
+        """Who ran between two steps, the first of which was in tick `before`. Before the first step there is no tick."""
+        first = 0 if before is None else before + 1
+        if first == tick:
+            return []
+        at = bisect_right(self.ends, first)
+        others = [it for it in self.slices[at: at + MOST_OTHERS + 1] if it.start < tick]
+        ran = [f"environment {it.env} ran {max(it.start, first)} to {min(it.end, tick) - 1}" for it in others[:MOST_OTHERS]]
+        more = [f"and others until {tick - 1}"] if len(others) > MOST_OTHERS else []
+        stopped = [] if before is None else [f"stopped in tick {before}"]
+        return [f"-- {'; '.join([*stopped, ', '.join(ran + more)])} --" if ran else f"-- {stopped[0] if stopped else 'nobody ran'} --"]
+
+
+def pages_asked_for(outstanding: int, deadline: int) -> str:
+    return f"{outstanding} page{'' if outstanding == 1 else 's'} asked for until tick {deadline}"
+
+
+def packet_arrives(length: int, claim: Claim) -> str:
+    if claim.atoms is None:
+        return f"a packet of {length:,} bytes arrives, for claim {claim.number} if its filter matches"
+    return f"a packet of {length:,} bytes arrives for claim {claim.number}{', whose handler runs' if claim.is_handled else ''}"
+
+
+# What happens to an environment between two steps, by kind.
+GIFTS = {"give": "directed yield", "async": "asynchronous transfer", "sync": "synchronous transfer"}
+NOTES: Dict[str, Callable[..., str]] = {
+    "packet": packet_arrives,
+    "line": lambda line: f"a signal on interrupt line {line}",
+    "asked": pages_asked_for,
+    "take": lambda page: f"page {page} was taken",
+    "gives": lambda kind, target: f"{GIFTS[kind]} to environment {target}",
+    "given": lambda giver: f"directed yield from environment {giver}",
+    "start": lambda handler: f"start of its slice, upcall to {handler}",
+    "end": lambda handler: f"end of its slice, upcall to {handler}",
+    "enter": lambda caller, kind, handler: f"{GIFTS[TRANSFERS[kind]]} from environment {caller} to {handler}",
+}
+HANDLED = ("start", "end", "enter")  # those whose last word is a handler
+
+
+def note_lines(notes: Iterable[Note], places: Places) -> List[str]:
+    """What happened to an environment between two steps, a line each."""
+    found = []
+    for kind, tick, words in notes:
+        if kind in HANDLED:
+            handler = words[-1]
+            words = (*words[:-1], "?" if handler is None else places.name(handler) or f"0x{handler:08x}")
+        found.append(f"-- tick {tick}: {NOTES[kind](*words)} --")
+    return found
 
 
 def kernel_line(changes: Iterable[Change], tick: Optional[int] = None) -> List[str]:
-    """What the kernel set behind the step before."""
+    """What the kernel set after the step before."""
     told = registers_changed(list(changes))
     when = "" if tick is None else f" before tick {tick}"
     return [f"       set by the kernel{when}: {', '.join(told)}"] if told else []
 
 
 def register_table(known: Knowledge) -> Iterator[str]:
-    """All registers, four in a line."""
-    order = [(name, known.registers[place]) for place, name in enumerate(NAMES)]
-    for first in range(0, 34, 4):
-        yield "  " + "  ".join(f"{name:>5} {'????????' if value is None else f'{value:08x}'}" for name, value in order[first: first + 4])
+    """All registers in hexadecimal and in decimal, three in a line."""
+    cells = [f"{name:<7} {'????????' if value is None else f'{value:08x}'} {'' if value is None else signed(value):>11}"
+             for name, value in zip(NAMES, known.registers)]
+    for first in range(0, len(cells), 3):
+        yield "  " + "  ".join(cells[first: first + 3])
+
+
+def signed(value: int) -> int:
+    """A word as a number with a sign."""
+    return value - (1 << 32) if value >= 1 << 31 else value
 
 
 def memory_lines(known: Knowledge, address: int, words: int, places: Places) -> Iterator[str]:

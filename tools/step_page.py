@@ -15,7 +15,7 @@ from programs import ROOT, Program
 from recording import Recording, Step
 from shown import shown
 from source import read_statement
-from step_lines import console_at, ending, step_line
+from step_lines import console_at, ending, note_lines, step_line
 from stepper import Stepper
 
 WEB = f"{ROOT}/web"  # with the script, style and markup
@@ -103,15 +103,26 @@ class Data:
         return [step.row.tick, self.spot(step), registers_of(step.own), registers_of(step.kernel), self.console(step.console), shown(told),
                 int(bool(step.asked or step.row.is_dead)), int(bool(step.code)), *([memory] if memory else [])]
 
+    def marks(self) -> Dict[str, List[int]]:
+        """The steps with which slices begin, before which packets arrive, and that raise exceptions which a handler takes."""
+        steps = list(enumerate(self.recording.steps, 1))
+        return {"slice": sorted(self.stepper.slice_places()), "packet": [at for at, it in steps if any(note.kind == "packet" for note in it.notes)],
+                "miss": [at for at, it in steps if it.cause is not None]}
+
     def all(self) -> Dict[str, Any]:
-        steps = [self.step(place, step) for place, step in enumerate(self.recording.steps, 1)]
+        steps, between = [], {}
+        for place, step in enumerate(self.recording.steps, 1):
+            steps.append(self.step(place, step))
+            between[place] = self.stepper.between()
+        between[len(steps) + 1] = note_lines(self.recording.notes, self.places)
         sources = {name: [shown(line) for line in self.places.sources.get(name, [])] for name in self.files}
         if self.listing:
             sources = {"instructions": self.listing}
         environment, head, boot = self.stepper.environment, self.recording.report.head, self.recording.boot()
         pages = {f"v{vpn}": page.rstrip(b"\0").hex() for vpn, page in sorted(boot.boot.pages.items())}
         return {"title": self.title, "labels": self.places.labels, "memory": {"rows": boot.rows, "pages": pages}, "names": NAMES,
-                "first": boot.registers, "spots": self.rows, "steps": steps,
+                "first": boot.registers, "spots": self.rows, "steps": steps, "marks": self.marks(),
+                "between": [[place, lines] for place, lines in between.items() if lines],
                 "files": [[name, lines] for name, lines in sources.items()], "console": console_at(environment, environment.console_bytes),
                 "end": ending(environment, head, self.recording.steps)[3:]}
 

@@ -3,7 +3,8 @@
 from __future__ import annotations
 
 import re
-from typing import Callable, Iterator, List, Optional
+from bisect import bisect_left
+from typing import Callable, Iterator, List, Optional, Set
 
 from knowledge import NAMES
 from limits import PAGE_SIZE
@@ -11,28 +12,29 @@ from places import Places
 from recording import Recording, Step
 from report import Environment
 from source import number, register
-from step_lines import between_lines, console_at, ending, kernel_line, memory_lines, register_table, step_line
+from step_lines import Meanwhile, console_at, ending, kernel_line, memory_lines, note_lines, register_table, step_line
 
 HELP = """next [N], back [N]         a step, or N of them
 tick T                     to the last step that was made in tick T or before
-call, reg NAME, line N     to the next kernel call; the next change of a register, as $t0 or hi; the next step at a line,
-                           N or FILE:N
-miss, slice, watch ADDRESS to the next exception that a handler took; the next start of a slice; the next change of the word at an
-                           address or a label. After `back` each of the six goes backwards
+call, reg NAME, line N     to the next kernel call; the next change of a register, as $8, $t0 or hi; the next step at a
+                           line, N or FILE:N
+miss, slice, packet        to the next exception that a handler took; the next start of a slice; the next packet that arrives
+watch ADDRESS              to the next change of the word at an address or a label. After `back` each of these words goes backwards
 env N                      to the same tick of another environment
 start, end                 before the first step, and to the last one
-regs, console              all registers; the console as it stands
+regs, console              all registers, in hexadecimal and in decimal; the console at this step
 x ADDRESS [N]              N words of memory from an address or a label on
 help, quit                 n, b, t, c, r, l, q and an empty line, which says the last word again, are short"""
 SHORT = {"n": "next", "b": "back", "t": "tick", "c": "call", "r": "reg", "l": "line", "s": "start", "e": "end", "q": "quit", "h": "help"}
 
 
 class Stepper:
-    """A place in a recording: behind so many of its steps, with what is known there."""
+    """A place in a recording: after a number of its steps, with what is known there."""
 
     def __init__(self, recording: Recording, places: Places, other: Optional[Callable[[int], "Stepper"]] = None):
         self.recording, self.places, self.other = recording, places, other
         self.steps = recording.steps
+        self.meanwhile = Meanwhile(recording.report, recording.number)
         self.known = recording.boot()
         self.done = 0
 
@@ -46,7 +48,7 @@ class Stepper:
         return self.steps[self.done - 1] if self.done else None
 
     def go(self, done: int) -> None:
-        """Goes to behind so many steps."""
+        """Goes to after this number of steps."""
         while self.done < done:
             step = self.steps[self.done]
             self.known.apply(step.kernel)
@@ -63,16 +65,25 @@ class Stepper:
         step = self.last
         if step is None:
             return ["before the first step"]
-        before = self.steps[self.done - 2].row.tick if self.done > 1 else None
-        happened = between_lines(self.recording.report, self.recording.number, before, step.row.tick)
-        return happened + kernel_line(step.kernel) + [step_line(step, self.known, self.places)]
+        return self.between() + kernel_line(step.kernel) + [step_line(step, self.known, self.places)]
+
+    def between(self) -> List[str]:
+        """What happened between the step that was made last and the one before it."""
+        step, before = self.steps[self.done - 1], self.steps[self.done - 2].row.tick if self.done > 1 else None
+        return self.meanwhile.line(before, step.row.tick) + note_lines(step.notes, self.places)
+
+    def slice_places(self) -> Set[int]:
+        """The steps with which slices of the environment begin, counted from 1."""
+        ticks = [it.row.tick for it in self.steps]
+        places = {bisect_left(ticks, it.start) + 1 for it in self.recording.report.slices if it.env == self.recording.number}
+        return places - {len(ticks) + 1}
 
     def tick_place(self, tick: int) -> int:
         """How many steps were made up to a tick, with that of the tick."""
         return sum(it.row.tick <= tick for it in self.steps)
 
     def seek(self, fits: Callable[[Step], bool], backwards: bool) -> bool:
-        """Goes to behind the next step, or the one before, that fits; whether there is one."""
+        """Goes to after the next step, or the one before, that fits; whether there is one."""
         order = range(self.done - 1, 0, -1) if backwards else range(self.done + 1, len(self.steps) + 1)
         found = next((it for it in order if fits(self.steps[it - 1])), None)
         if found is not None:
@@ -98,7 +109,7 @@ class Stepper:
     def do_next(self, rest: List[str], backwards: bool) -> Iterator[str]:
         many = int(rest[0]) if rest else 1
         if not backwards and self.done == len(self.steps):
-            yield self.end_line()
+            yield from self.end_lines()
             return
         self.go(max(self.done - many, 0) if backwards else min(self.done + many, len(self.steps)))
         yield from self.lines()
@@ -116,16 +127,17 @@ class Stepper:
     def do_end(self, _rest: List[str], _backwards: bool) -> Iterator[str]:
         self.go(len(self.steps))
         yield from self.lines()
-        yield self.end_line()
+        yield from self.end_lines()
 
-    def end_line(self) -> str:
-        return ending(self.environment, self.recording.report.head, self.steps)
+    def end_lines(self) -> List[str]:
+        """What happened after the last step, and how the environment ended."""
+        return [*note_lines(self.recording.notes, self.places), ending(self.environment, self.recording.report.head, self.steps)]
 
     def sought(self, fits: Callable[[Step], bool], backwards: bool, what: str) -> Iterator[str]:
         if self.seek(fits, backwards):
             yield from self.lines()
         else:
-            yield f"no {what} {'before this' if backwards else 'behind this'}"
+            yield f"no {what} {'before this' if backwards else 'after this'}"
 
     def do_call(self, _rest: List[str], backwards: bool) -> Iterator[str]:
         return self.sought(lambda it: bool(it.asked), backwards, "kernel call")
@@ -134,10 +146,11 @@ class Stepper:
         return self.sought(lambda it: it.cause is not None, backwards, "exception that a handler took")
 
     def do_slice(self, _rest: List[str], backwards: bool) -> Iterator[str]:
-        starts = {it.start for it in self.recording.report.slices if it.env == self.recording.number}
-        firsts = {id(step) for before, step in zip([None, *self.steps], self.steps)
-                  if any(at in starts for at in range(before.row.tick + 1 if before else 0, step.row.tick + 1))}
+        firsts = {id(self.steps[place - 1]) for place in self.slice_places()}
         return self.sought(lambda it: id(it) in firsts, backwards, "start of a slice")
+
+    def do_packet(self, _rest: List[str], backwards: bool) -> Iterator[str]:
+        return self.sought(lambda it: any(note.kind == "packet" for note in it.notes), backwards, "packet that arrives")
 
     def do_watch(self, rest: List[str], backwards: bool) -> Iterator[str]:
         address = self.address_of(rest[0])
@@ -168,7 +181,7 @@ class Stepper:
         line, found = self.places.of_line(file, int(count))
         wanted = set(found)
         if not wanted:
-            return iter([f"no instruction is at line {rest[0]} or behind it"])
+            return iter([f"no instruction is at line {rest[0]} or after it"])
         return self.sought(lambda it: it.row.pc in wanted, backwards, f"step at line {line}")
 
     def do_regs(self, _rest: List[str], _backwards: bool) -> Iterator[str]:

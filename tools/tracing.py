@@ -2,11 +2,11 @@
 
 from __future__ import annotations
 
-from typing import Dict, List, Tuple
+from typing import Dict, List
 
 from boot_memory import read_image
 from programs import USAGE, Failed, Machine, aegis, content
-from recording import Cut, Follower, Recording, Trace, callers, read_trace
+from recording import Cut, Event, Follower, Recording, Trace, callers, read_trace
 from report import Report
 from source import number
 
@@ -24,13 +24,13 @@ def traced(machine: Machine, ticks: int, env: int) -> Trace:
         raise Failed(status or 1, f"{why}; the program ended with {status}") from None
 
 
-def events_of(schedule: bytes) -> List[Tuple[int, str, int]]:
-    """The packets and signals of a schedule without a fault: tick, kind, and a packet's length or the line."""
+def events_of(schedule: bytes) -> List[Event]:
+    """The packets and signals of a schedule without a fault."""
     found = []
     for line in schedule.decode("latin-1").split("\n"):
         words = line.split("#")[0].split()
         if len(words) == 3:
-            found.append((number(words[0]), words[1], len(words[2]) // 2 if words[1] == "packet" else number(words[2])))
+            found.append((number(words[0]), words[1], bytes.fromhex(words[2]) if words[1] == "packet" else number(words[2])))
     return found
 
 

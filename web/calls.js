@@ -4,7 +4,7 @@ import { tables } from "./tables.js";
 import { address } from "./text.js";
 
 export const CODE = 2, VALUE = 3, FIRST_ARGUMENT = 4; // registers
-export const PUT = 1, ALLOC = 3, FREE = 4, RECAP = 5, BIND = 6, UNBIND = 7, CONTEXT = 8, CLAIM = 14, LINE = 17;
+export const PUT = 1, ALLOC = 3, FREE = 4, RECAP = 5, BIND = 6, UNBIND = 7, CONTEXT = 8, CLAIM = 14, UNCLAIM = 15, HANDLER = 16, LINE = 17;
 const ANY = 0xffffffff, LARGEST_DECIMAL = 65_535;
 const ADDRESS = 1, CHOICE = 2;
 

@@ -2,6 +2,7 @@
 
 import * as calls from "./calls.js";
 import { access, cause, COPROCESSORS, isCall, isJump, isStore, opcodeOf, stored, target } from "./instructions.js";
+import { ATOM_SIZE, matches } from "./filters.js";
 import { allocated, AREAS, AT, ASYNCHRONOUS, cell, CONTEXT, ENDS, EXCEPTIONS, K0, K1, Knowledge, MOST_RECORDS, NO_BACKUP, POST, REGISTERS,
   STARTS } from "./knowledge.js";
 import { TRANSFERS } from "./refused.js";
@@ -21,9 +22,11 @@ function happenings(report, traces, events) {
   }
   for (const { kind, time, env, words } of report.marks) {
     if (kind === "asked" || kind === "take") add(time, BEFORE, env, kind, ...words.slice(3).map(numberOf));
-    else if (kind === "give") add(time, GIVEN, Number(words[4]), "start");
-    else if (TRANSFERS.includes(kind)) add(time, GIVEN, Number(words[4]), "enter", Number(words[3]), TRANSFERS.indexOf(kind));
-    else if (kind === "end") add(time, END, env, "end");
+    else if (kind === "give" || TRANSFERS.includes(kind)) {
+      const giver = Number(words[3]), target = Number(words[4]);
+      add(time, GIVEN, giver, "gives", kind, target);
+      add(time, GIVEN, target, ...(kind === "give" ? ["given", giver] : ["enter", giver, TRANSFERS.indexOf(kind)]));
+    } else if (kind === "end") add(time, END, env, "end");
   }
   for (const piece of report.slices) if (piece.begun.startsWith("run ")) add(piece.start, TURN, piece.env, "start");
   for (const [env, rows] of traces) rows.forEach((row, place) => add(row.tick, STEP, env, "step", row, rows[place + 1] ?? null));
@@ -36,6 +39,7 @@ export class Follower {
     Object.assign(this, { image, report, traces, handed: new Map(), stepped: "", isRaised: false, epc: 0 });
     this.known = new Map([...traces.keys()].map(env => [env, this.boot(env)]));
     this.steps = new Map([...traces.keys()].map(env => [env, []]));
+    this.notes = new Map([...traces.keys()].map(env => [env, []])); // since its last step
     this.ends = new Set(report.marks.filter(it => it.kind === "end").map(it => `${it.env} ${it.time}`));
     this.turns = new Set(report.slices.map(it => `${it.env} ${it.start}`));
     this.order = happenings(report, traces, events);
@@ -49,18 +53,31 @@ export class Follower {
   /** Follows all, and answers the recording of one: its steps, and what the kernel did after the last one. */
   recording(number) {
     for (const it of this.order) WHAT[it.what].call(this, this.known.get(it.env), it.tick, ...it.words);
-    return { number, steps: this.steps.get(number), tail: this.known.get(number).taken(), report: this.report, boot: () => this.boot(number) };
+    return { number, steps: this.steps.get(number), tail: this.known.get(number).taken(), report: this.report, notes: this.notes.get(number),
+      boot: () => this.boot(number) };
   }
 
   // What the kernel does between steps
 
-  line(known, _tick, number) {
+  note(known, kind, tick, ...words) {
+    this.notes.get(known.number).push({ kind, tick, words });
+  }
+
+  packet(known, tick, data) {
+    if (known.get(cell.claim)) known.putContext(POST.packets, null, null);
+    const claim = known.get(cell.claims).find(it => it.atoms === null || matches(it.atoms, data));
+    if (claim) this.note(known, "packet", tick, data.length, claim);
+  }
+
+  line(known, tick, number) {
     if (!(known.get(cell.lines) >>> number & 1)) return;
+    this.note(known, "line", tick, number);
     const word = known.word(tables.limits.pageSize + POST.lines);
     known.putContext(POST.lines, word === null ? null : (word | 1 << number) >>> 0);
   }
 
-  take(known, _tick, page, backup) {
+  take(known, tick, page, backup) {
+    this.note(known, "take", tick, page);
     const place = known.word(tables.limits.pageSize + POST.takings);
     if (place === null) known.putBytes(CONTEXT, POST.records, Array(8 * MOST_RECORDS).fill(null));
     else if (place < MOST_RECORDS) known.putContext(POST.records + 8 * place, page, backup ?? NO_BACKUP);
@@ -69,17 +86,29 @@ export class Follower {
     known.losePage(page);
   }
 
+  gives(known, tick, kind, target) {
+    this.note(known, "gives", tick, kind, target);
+  }
+
+  /** Another gives it the rest of a slice. */
+  given(known, tick, giver) {
+    this.note(known, "given", tick, giver);
+    this.start(known, tick + 1);
+  }
+
   /** A slice starts. */
-  start(known) {
+  start(known, tick) {
     const handler = known.get(cell.handler(STARTS)), resume = known.restart();
     if (handler === 0) return known.continueAt(resume);
+    this.note(known, "start", tick, handler);
     known.putContext(AREAS.start, ...(handler !== null ? [known.registers[K0], resume] : [null, null]));
     known.put(K0, handler !== null ? resume : null);
     known.continueAt(handler);
   }
 
   /** A transfer enters it, with the caller's registers. */
-  enter(known, _tick, caller, kind) {
+  enter(known, tick, caller, kind) {
+    this.note(known, "enter", tick, caller, kind, known.get(cell.handler(ASYNCHRONOUS + kind)));
     known.putContext(AREAS.entry, ...known.registers.slice(1), known.restart(), caller, kind);
     (this.handed.get(caller) ?? Array(REGISTERS).fill(null)).forEach((value, register) => known.put(register, value));
     known.continueAt(known.get(cell.handler(ASYNCHRONOUS + kind)));
@@ -88,6 +117,7 @@ export class Follower {
   /** It is told of the end of its slice, in the tick in which another gave it that: of its own step `step` knows it. */
   end(known, tick) {
     if (this.stepped === `${known.number} ${tick}`) return;
+    this.note(known, "end", tick, known.get(cell.handler(ENDS)));
     const resume = known.restart();
     this.tellEnd(known, resume, known.registers[K0]);
     known.put(K0, resume);
@@ -105,7 +135,9 @@ export class Follower {
     this.stepped = place;
     this.isRaised = false;
     if (known.get(cell.pc) !== row.pc) known.continueAt(row.pc);
-    const step = { row, isInSlot: known.get(cell.slot), kernel: known.taken(), own: [], asked: "", answered: "", number: null, code: null, console: 0, cause: null };
+    const step = { row, isInSlot: known.get(cell.slot), kernel: known.taken(), own: [], asked: "", answered: "", number: null, code: null, console: 0,
+      cause: null, notes: this.notes.get(known.number) };
+    this.notes.set(known.number, []);
     const before = [...known.registers];
     this.steps.get(known.number).push(step);
     if (row.isDead) {
@@ -119,6 +151,7 @@ export class Follower {
       if (this.isRaised && known.registers[AT] !== null) step.cause = known.registers[AT] >>> 2 & 31;
     }
     if (ends && !row.isDead) {
+      this.note(known, "end", tick, known.get(cell.handler(ENDS)));
       const goesToK0 = /^\S+ \$26\b/.test(row.text) && !isStore(row.word ?? 0);
       this.tellEnd(known, known.registers[K0], goesToK0 ? null : this.isRaised ? this.epc : before[K0]);
     }
@@ -207,19 +240,28 @@ export class Follower {
       [calls.RECAP]: () => isShared && known.share(first),
       [calls.BIND]: () => first !== null && known.put(row, { vpn: first, page: known.get(cell.own(second)) ?? null, isWritable: Boolean(third) }),
       [calls.UNBIND]: () => value && first !== null && known.put(row, null),
-      [calls.CLAIM]: () => {
-        known.share(third);
-        known.put(cell.claim, true);
-      },
+      [calls.CLAIM]: () => this.claim(known, third, known.read(first, second === null ? null : second * ATOM_SIZE), value),
+      [calls.UNCLAIM]: () => known.put(cell.claims, known.get(cell.claims).filter(it => it.number !== first)),
+      [calls.HANDLER]: () => known.put(cell.claims, known.get(cell.claims).map(it => it.number === first ? { ...it, isHandled: true } : it)),
       [calls.LINE]: () => first !== null && known.put(cell.lines, second ? known.get(cell.lines) | 1 << first : known.get(cell.lines) & ~(1 << first)),
     };
     ways[step.number]?.();
   }
+
+  /** A claim was made, into a page. */
+  claim(known, page, atoms, number) {
+    known.share(page);
+    known.put(cell.claim, true);
+    if (number !== null) known.put(cell.claims, [...known.get(cell.claims), { number, page, atoms, isHandled: false }]);
+  }
 }
 
 const WHAT = {
-  packet: known => known.get(cell.claim) && known.putContext(POST.packets, null, null),
-  asked: (known, _tick, outstanding, deadline) => known.putContext(POST.outstanding, outstanding, deadline),
+  asked(known, tick, outstanding, deadline) {
+    this.note(known, "asked", tick, outstanding, deadline);
+    known.putContext(POST.outstanding, outstanding, deadline);
+  },
+  packet: Follower.prototype.packet, gives: Follower.prototype.gives, given: Follower.prototype.given,
   line: Follower.prototype.line, take: Follower.prototype.take, start: Follower.prototype.start,
   enter: Follower.prototype.enter, end: Follower.prototype.end, step: Follower.prototype.step,
 };

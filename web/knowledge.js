@@ -20,14 +20,14 @@ export const CONTEXT = guaranteed(CONTEXT_VPN);
 
 /** Names of what is known beside registers, which are numbers. */
 export const cell = {
-  pc: "pc", next: "next", slot: "slot", lines: "lines", claim: "claim", console: "console",
+  pc: "pc", next: "next", slot: "slot", lines: "lines", claim: "claim", claims: "claims", console: "console",
   isVague: "vague", isLost: "lost", // bindings that aren't known, and a store that went to an address that isn't
   handler: kind => `handler ${kind}`, own: page => `own ${page}`, row: row => `row ${row}`, shared: page => `shared ${page}`,
   byte: (page, place) => `byte ${page} ${place}`,
 };
 
 function isSame(one, two) {
-  if (one === null || two === null || typeof one !== "object" || typeof two !== "object") return one === two;
+  if (one === null || two === null || typeof one !== "object" || typeof two !== "object" || Array.isArray(one)) return one === two;
   return one.vpn === two.vpn && one.page === two.page && one.isWritable === two.isWritable;
 }
 
@@ -37,7 +37,7 @@ export class Knowledge {
     Object.assign(this, { number, boot, isAlone, rows: tables.limits.rows[version], changes: [] });
     this.registers = Array(REGISTERS).fill(0);
     this.registers[SP] = FIRST_STACK;
-    this.cells = new Map([[cell.pc, boot.entry], [cell.next, boot.entry + 4], [cell.slot, false], [cell.lines, 0], [cell.claim, false],
+    this.cells = new Map([[cell.pc, boot.entry], [cell.next, boot.entry + 4], [cell.slot, false], [cell.lines, 0], [cell.claim, false], [cell.claims, []],
       [cell.console, 0], [cell.isVague, false], [cell.isLost, false]]);
     for (let kind = 0; kind < HANDLERS; kind++) this.cells.set(cell.handler(kind), 0);
   }
@@ -110,6 +110,13 @@ export class Knowledge {
     return bytes.includes(null) ? null : (bytes[0] | bytes[1] << 8 | bytes[2] << 16 | bytes[3] << 24) >>> 0;
   }
 
+  /** Bytes from an address on, or null where one of them isn't known. */
+  read(address, size) {
+    if (address === null || size === null) return null;
+    const bytes = Array.from({ length: size }, (_, at) => this.byte(address + at >>> 0));
+    return bytes.includes(null) ? null : bytes;
+  }
+
   putBytes(page, place, data) {
     data.forEach((value, at) => this.put(cell.byte(page, place + at), value));
   }
@@ -119,8 +126,9 @@ export class Knowledge {
     words.forEach((word, at) => this.putBytes(CONTEXT, place + 4 * at, [0, 8, 16, 24].map(shift => word === null ? null : word >>> shift & 255)));
   }
 
-  /** A page of its own is none any more, nor bound. */
+  /** A page of its own is none any more, nor bound, nor a ring. */
   losePage(number) {
+    this.put(cell.claims, this.get(cell.claims).filter(it => it.page !== number));
     const page = this.get(cell.own(number));
     if (!page) return;
     this.put(cell.own(number), null);

@@ -31,12 +31,12 @@ export function callers(report, number) {
   return found;
 }
 
-/** The packets and signals of a schedule: tick, kind, and a packet's length or the line. */
+/** The packets and signals of a schedule: tick, kind, and a packet's bytes or the line. */
 export function eventsOf(schedule) {
   const found = [];
   for (const line of schedule.split("\n")) {
     const words = wordsOf(line);
-    if (words.length === 3) found.push([Number(words[0]), words[1], words[1] === "packet" ? words[2].length >> 1 : Number(words[2])]);
+    if (words.length === 3) found.push([Number(words[0]), words[1], words[1] === "packet" ? words[2].match(/../g).map(it => parseInt(it, 16)) : Number(words[2])]);
   }
   return found;
 }

@@ -30,6 +30,7 @@ class StepView {
   constructor(data) {
     Object.assign(this, { data, steps: data.steps, kept: [], calls: [], lines: [], file: -1, marked: null });
     this.memory = new StepMemory(data.memory, data.steps);
+    this.between = new Map(data.between);
     this.done = this.steps.length ? 1 : 0;
     this.now = data.first;
     this.keep();
@@ -121,8 +122,19 @@ class StepView {
     this.showCalls();
   }
 
-  /** Goes where a word says: `tick 9`, or to the next step at `line 12` or change of `$t0`; whether it is such a word. */
+  /** Goes to the next of these steps, counted from 1, or the one before. */
+  seekOneOf(places, isBackwards) {
+    const found = isBackwards ? places.filter(it => it < this.done).at(-1) : places.find(it => it > this.done);
+    if (found) this.go(found);
+  }
+
+  /** Goes where a word says: `tick 9`; to the next step at `line 12` or change of `$8`; to the next `slice`, `packet` or `miss`. The answer is
+   * whether it is such a word. */
   goTo(word, isBackwards) {
+    if (Object.hasOwn(this.data.marks, word.trim())) {
+      this.seekOneOf(this.data.marks[word.trim()], isBackwards);
+      return true;
+    }
     const found = /^(tick|line|)\s*(\S+)$/.exec(word.trim()), number = Number(found?.[2]), register = found ? this.registerOf(found[2]) : -1;
     if (found?.[1] === "tick" && number >= 0) this.go(this.steps.filter(it => it[TICK] <= number).length);
     else if (found?.[1] === "line" && number > 0) this.seek(step => this.data.spots[step[SPOT]][3] === number, isBackwards);
@@ -131,10 +143,9 @@ class StepView {
     return true;
   }
 
-  /** The place of a register, of its name or its number with `$`, or -1. */
+  /** The place of a register, of its name or its number, both with `$`, or -1. */
   registerOf(word) {
-    const number = /^\$([0-9]+)$/.exec(word), place = number ? Number(number[1]) : this.data.names.indexOf(word);
-    return place < this.data.names.length ? place : -1;
+    return word ? this.data.names.findIndex(it => it === word || it.split(" ").some(part => word.startsWith("$") && word.slice(1) === part.replace("$", ""))) : -1;
   }
 
   // What is shown of a step
@@ -150,13 +161,16 @@ class StepView {
       if (spot[5]) where.append(make("span", "pseudo", `the ${spot[6] === 1 ? "first" : "second"} of the two instructions of \`${spot[5]}\` `));
       if (step[TOLD]) where.append(make("span", "told" + (step[IS_BAD] ? " bad" : ""), `${step[TOLD]} `));
       if (step[KERNEL].length) {
-        where.append(make("span", "kernel", `before it the kernel set ${this.data.names.filter((_, i) => names(step[KERNEL], i)).join(" ")}`));
+        where.append(make("span", "kernel", `before it the kernel set ${this.data.names.filter((_, i) => names(step[KERNEL], i)).join(", ")}`));
       }
       if (spot[3]) this.mark(spot);
     } else {
       where.append(this.steps.length ? "before the first step" : "no step");
     }
-    if (this.done === this.steps.length) where.append(make("span", "", ` The end: ${this.data.end}`));
+    const isLast = this.done === this.steps.length;
+    const between = [...this.between.get(this.done) ?? [], ...isLast ? this.between.get(this.done + 1) ?? [] : []];
+    for (const line of between) where.append(make("span", "between", line));
+    if (isLast) where.append(make("span", "", ` The end: ${this.data.end}`));
   }
 
   mark([, , file, line]) {
@@ -188,7 +202,7 @@ class StepView {
 
   /** The address that a word says: a number, a label, a register; of no word that of the last store. */
   addressOf(word) {
-    if (!word) return this.memory.lastStore() ?? (this.memory.pageAt(0x10000000) ? 0x10000000 : this.now[this.data.names.indexOf("$sp")]);
+    if (!word) return this.memory.lastStore() ?? (this.memory.pageAt(0x10000000) ? 0x10000000 : this.now[this.registerOf("$sp")]);
     if (/^([0-9]+|0x[0-9a-f]{1,8})$/i.test(word)) return Number(word) >>> 0;
     const found = /^([\w.]+)([+-][0-9]+)?$/.exec(word), register = this.registerOf(word);
     if (register >= 0) return this.now[register];

@@ -1,5 +1,6 @@
 // A recording as the data that the stepper shows, as tools/step_page.py makes it (docs/STEPPING.md, "What a page has").
 
+import { Meanwhile, noteLines, slicePlaces } from "./between.js";
 import { readImage } from "./image.js";
 import { isStore } from "./instructions.js";
 import { cell, CONTEXT, K1 } from "./knowledge.js";
@@ -142,13 +143,26 @@ class StepData {
     return `exception ${tables.exceptions[cause] ?? "?"} (${cause})${cause >= 1 && cause <= 5 && bad !== null ? ` at 0x${address(bad)}` : ""}, to handler`;
   }
 
+  /** What happened before each step, and after the last one, where something did. */
+  between() {
+    const { steps, report, number, notes } = this.recording, meanwhile = new Meanwhile(report, number);
+    const lines = steps.map((it, at) => [at + 1, [...meanwhile.line(at ? steps[at - 1].row.tick : null, it.row.tick), ...noteLines(it.notes, this.places)]]);
+    return [...lines, [steps.length + 1, noteLines(notes, this.places)]].filter(([, it]) => it.length);
+  }
+
+  /** The steps with which slices begin, before which packets arrive, and that raise exceptions which a handler takes. */
+  marks() {
+    const placesOf = fits => this.recording.steps.flatMap((it, at) => fits(it) ? [at + 1] : []);
+    return { slice: slicePlaces(this.recording), packet: placesOf(it => it.notes.some(note => note.kind === "packet")), miss: placesOf(it => it.cause !== null) };
+  }
+
   all() {
     const { recording, env } = this, boot = recording.boot(), steps = recording.steps.map(it => this.step(it));
     const sources = this.listing.length ? [["instructions", this.listing]]
       : [...this.files.keys()].map(name => [name, (this.places.sources.get(name) ?? []).map(shown)]);
     const pages = [...boot.boot.pages].sort(([one], [two]) => one - two).map(([vpn, page]) => [`v${vpn}`, [...page].map(digitsOf).join("").replace(/(00)+$/, "")]);
     return { title: this.title, labels: Object.fromEntries(this.places.labels), memory: { rows: boot.rows, pages: Object.fromEntries(pages) },
-      names: tables.names, first: boot.registers, spots: this.rows, steps, files: sources, console: shown(utf8(env.console)),
+      names: tables.names, first: boot.registers, spots: this.rows, steps, marks: this.marks(), between: this.between(), files: sources, console: shown(utf8(env.console)),
       end: ending(env, recording.report, recording.steps) };
   }
 }

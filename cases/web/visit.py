@@ -112,7 +112,7 @@ class Visit:
         self.browser.key("c")
         self.check("to the next call", True, "put(0x10000000, 6) = 6" in self.text("step-where"))
         self.check("its console", "hello\n", self.text("step-console"))
-        self.check("registers, in both", True, "$a110000000" not in self.text("step-regs") and "$a0100000002684354" in self.text("step-regs"))
+        self.check("registers, in both", True, "$5 a110000000" not in self.text("step-regs") and "$4 a0100000002684354" in self.text("step-regs"))
         self.write("step-address", "text")
         self.check("memory at a label", True, self.text("step-memory").startswith("10000000  6c6c6568 "))
         self.browser.key("End")
