@@ -8,13 +8,13 @@
 # `la $26,spim` and `jalr $27,$26` make a call, which keeps all registers but the answer, $1, $26 and $27. Another number exits with
 # 1. The console takes 65,536 bytes.
 #
-# What is read comes in packets of the kind 0x88b6 (`tools/try --input`): behind 14 bytes of head stands the text, and behind the
+# What is read comes in packets of the kind 0x88b6 (`tools/try --input`): after 14 bytes of head is the text, and after the
 # whole text a byte 0. A program that reads begins with `la $26,spim_start` and `jalr $27,$26`, so that it claims them before the
 # first one comes. A read without a text that is left says so, and exits with 1.
 .equ    spim_ring, 0x7000       # the upper half of the address at which the ring is seen
 .equ    spim_vpn, 0x70000
 .equ    spim_buffers, 0x800     # the bits in which the addresses of the ring's two buffers differ
-.equ    spim_text_at, 18        # where a buffer's text begins: behind the length and the head
+.equ    spim_text_at, 18        # where a buffer's text begins: after the length and the head
 .equ    spim_late, 2000         # the tick from which on no first packet is waited for
 
         .text
@@ -35,7 +35,7 @@ spim:   addiu $29, $29, -64
         li   $1, 17
         beq  $2, $1, spim_exit
         move $8, $4
-        addiu $5, $29, 39       # behind the digits, of which there are at most eleven
+        addiu $5, $29, 39       # after the digits, of which there are at most eleven
         li   $1, 11
         beq  $2, $1, spim_character
         nop
@@ -150,7 +150,7 @@ spim_pass: jal spim_byte
         b    spim_blank
         nop
 spim_sign: bne $9, $1, spim_figure
-        move $7, $0             # 1 behind a minus sign
+        move $7, $0             # 1 after a minus sign
         jal  spim_byte
         addiu $7, $0, 1
 spim_figure: addiu $9, $9, -48

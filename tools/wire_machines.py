@@ -13,7 +13,7 @@ Named = Tuple[str, Optional[str]]  # a manifest, and its schedule if there is on
 
 
 def named_machines(words: List[str]) -> List[Named]:
-    """Each manifest with its schedule, if one stands behind it."""
+    """Each manifest with its schedule, if one follows it."""
     pairs: List[Named] = []
     for word in words:
         if not word.endswith(".sch"):
@@ -21,7 +21,7 @@ def named_machines(words: List[str]) -> List[Named]:
         elif pairs and pairs[-1][1] is None:
             pairs[-1] = (pairs[-1][0], word)
         else:
-            raise Failed(USAGE, f"{word}: a schedule stands behind its manifest")
+            raise Failed(USAGE, f"{word}: a schedule follows its manifest")
     if len(pairs) > MOST_MACHINES:
         raise Failed(USAGE, f"more than {MOST_MACHINES} machines")
     return pairs
