@@ -47,5 +47,5 @@ def of_sources() -> Dict[str, Any]:
 def tables() -> Dict[str, Any]:
     """All of it, by the names that web/ has for them."""
     calls = {number: {"name": it.name, "arguments": it.arguments} for number, it in kernel_calls.CALLS.items()}
-    return {**of_sources(), "limits": of_limits(), "causes": CAUSES, "usually": TRY.USUALLY, "refusals": refusals.KINDS, "calls": calls,
-            "answers": kernel_calls.ANSWERS, "kinds": kernel_calls.KINDS, "names": NAMES, "exceptions": EXCEPTIONS}
+    return {**of_sources(), "limits": of_limits(), "causes": CAUSES, "usually": TRY.USUALLY, "noSmallData": TRY.NO_SMALL_DATA,
+            "refusals": refusals.KINDS, "calls": calls, "answers": kernel_calls.ANSWERS, "kinds": kernel_calls.KINDS, "names": NAMES, "exceptions": EXCEPTIONS}

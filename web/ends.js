@@ -25,13 +25,14 @@ export function place(program, env, withAddress) {
   if (line === undefined) {
     const last = Math.max(...program.listing.keys());
     const why = pc >= DATA ? ["   it jumped out of its text: is the register of a `jr` the address that a call left in it?"]
-      : program.listing.size && pc >= last + 4 ? ["   it ran on behind its last instruction: a program ends by exit, and a function by `jr $31`"] : [];
+      : program.listing.size && pc >= last + 4 ? ["   it ran on after its last instruction: a program ends by exit, and a function by `jr $31`"] : [];
     return { lines: [`   at 0x${address(pc)}, where no instruction of the program's text is`, ...why], at: null };
   }
   const at = placesOf(program).lines.get(pc) ?? null, reached = withAddress ? addressOf(line.slice(18), env) : null;
   return {
     lines: [`   ${line}`, ...(at ? [`   ${at.file}:${at.number}: ${at.text}`] : []),
-      ...(reached !== null ? [`   it goes to address 0x${address(reached)}`] : [])],
+      ...(reached !== null ? [`   it goes to address 0x${address(reached)}`] : []),
+      ...(reached !== null && line.endsWith("($28)") && env.cpu.registers[28] === 0 ? [`   it ${tables.noSmallData}`] : [])],
     at,
   };
 }
