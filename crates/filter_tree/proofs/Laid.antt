@@ -242,10 +242,10 @@ test_laid depth a claims next inside made old mid new onward good branch asked l
 -- a node that reads a field, in front of claims that are parted by its value
 pub read_laid : (depth : ℕ) (a : Atom) (claims : List ClaimValue) (next inside made : Onward) (old mid new : List Node) → IsOnward old next → is_width a.width ≡ true
     → is_branch depth a claims ≡ true → IsParted depth claims next old mid inside
-    → made.place ≡ length mid → made.least ≡ inside.least → new ≡ mid ++ Read a.offset a.width a.mask inside.place next.place ∷ [] → IsLaid depth claims next old new made
+    → made.place ≡ length mid → made.least ≡ inside.least → new ≡ mid ++ Read a inside.place next.place ∷ [] → IsLaid depth claims next old new made
 read_laid depth a claims next inside made old mid new onward good branch parted at least pushed =
     let all = (and_parts (starts_with depth a claims) (list_all (begins depth a) claims) branch).1 in
-    let t = top mid new (Read a.offset a.width a.mask inside.place next.place) made.place parted.nodes (good, parted.within, omega (arith, onward.within, parted.extends.longer)) at pushed in
+    let t = top mid new (Read a inside.place next.place) made.place parted.nodes (good, parted.within, omega (arith, onward.within, parted.extends.longer)) at pushed in
     record {
       nodes = t.nodes;
       extends = extends_trans old mid new parted.extends t.extends;

@@ -8,7 +8,7 @@ use Rattle.filter_core.specs.Matching.{field}
 use Rattle.filter_tree.specs.declared.node.Node.{Node}
 use Rattle.filter_tree.specs.declared.node.Node.TheVariants.{End, Test, Byte, Read, Below, Equal, Claim}
 use Rattle.filter_tree.specs.Laying.{Extends}
-use Rattle.filter_tree.specs.Nodes.{AreFrom, AreNodes, IsNode, Way, way, way_among, way_from}
+use Rattle.filter_tree.specs.Nodes.{AreFrom, AreNodes, IsNode, IsStop, Way, no_way, way, way_among, way_from}
 use Rattle.filter_tree.specs.Tree.{lower_number}
 
 -- among no more nodes than stand up to a place
@@ -29,8 +29,8 @@ from_same packet one other nodes place (Test a inside next) v is same =
     rw (same inside v is.1, same next v is.2) refl
 from_same packet one other nodes place (Byte a inside next) v is same =
     rw (same inside v is.1, same next v is.2) refl
-from_same packet one other nodes place (Read offset width mask inside next) v is same =
-    rw (same inside (bit_and (field offset width packet) mask) is.1, same next v is.2) refl
+from_same packet one other nodes place (Read a inside next) v is same =
+    rw (same inside (bit_and (field a.offset a.width packet) a.mask) is.1, same next v is.2) refl
 from_same packet one other nodes place (Below bound low high) v is same = rw (same low v is.0, same high v is.1) refl
 from_same packet one other nodes place (Equal value inside next) v is same = rw (same inside v is.0, same next v is.1) refl
 from_same packet one other nodes place (Claim id next least) v is same = rw (same next v is.0) refl
@@ -88,7 +88,7 @@ node_extends : (old new : List Node) (place : ℕ) (node : Node) → Extends old
 node_extends old new place End more within is = tt
 node_extends old new place (Test a inside next) more within is = is
 node_extends old new place (Byte a inside next) more within is = is
-node_extends old new place (Read offset width mask inside next) more within is = is
+node_extends old new place (Read a inside next) more within is = is
 node_extends old new place (Below bound low high) more within is = is
 node_extends old new place (Equal value inside next) more within is = is
 node_extends old new place (Claim id next least) more within is = (is.0, from_extends old new least next more (omega (arith, within, is.0)) is.1)
@@ -115,3 +115,17 @@ way_top packet nodes node v good is =
     ∙ ap (λ (x : Node). way_from packet (way_among packet (nodes ++ node ∷ []) (length nodes)) x v) (get_or-append_seam nodes node [] End)
     ∙ from_same packet (way_among packet (nodes ++ node ∷ []) (length nodes)) (way packet nodes) nodes (length nodes) node v is
     (λ q w below. among_more packet (nodes ++ node ∷ []) (length nodes) q w below ∙ way_same packet nodes (node ∷ []) q w below good)
+
+-- where a search stops and there is no claim, it ends
+pub nothing_behind : (packet : List ℕ) (nodes : List Node) (place v : ℕ) → AreNodes nodes → place < length nodes → IsStop (slice_index_or nodes place End)
+    → ((id other least : ℕ) → ¬ (slice_index_or nodes place End ≡ Claim id other least)) → way packet nodes place v ≡ no_way
+nothing_behind packet nodes place v good within stop other = way_at packet nodes place v End good within (ends (slice_index_or nodes place End) stop other)
+  where
+    ends : (node : Node) → IsStop node → ((id other least : ℕ) → ¬ (node ≡ Claim id other least)) → node ≡ End
+    ends End stop other = refl
+    ends (Claim id next least) stop other = absurd (other id next least refl)
+    ends (Test a inside next) stop other = absurd stop
+    ends (Byte a inside next) stop other = absurd stop
+    ends (Read a inside next) stop other = absurd stop
+    ends (Below bound low high) stop other = absurd stop
+    ends (Equal value inside next) stop other = absurd stop

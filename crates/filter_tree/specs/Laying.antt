@@ -25,6 +25,15 @@ abbrev pub first_asked : ℕ → List ClaimValue → ℕ
 first_asked depth [] = 0
 first_asked depth (c ∷ claims) = leaf_value depth c
 
+-- some claims may be laid from a depth on, in front of what comes next: they are in order, and there is room for their
+-- nodes
+pub record MayLay (depth : ℕ) (claims : List ClaimValue) (next : Onward) (old : List Node) (capacity : ℕ) : Type 0 where
+  pub order : AreInOrder depth claims
+  pub nodes : AreNodes old
+  pub onward : IsOnward old next
+  pub room : length old + nodes_for depth claims ≤ capacity
+  pub few : length old + nodes_for depth claims < 2 ^ 32
+
 -- the ways from the places that there were stay
 pub record Extends (old new : List Node) : Type 0 where
   pub longer : length old ≤ length new

@@ -7,3 +7,4 @@ pub mod Laying
 pub mod Nodes
 pub mod Prefixes
 pub mod Tree
+pub mod Withdrawals

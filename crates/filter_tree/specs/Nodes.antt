@@ -26,9 +26,9 @@ abbrev pub way_from : List ℕ → (ℕ → ℕ → Way) → Node → ℕ → Wa
 way_from packet way End v = no_way
 way_from packet way (Test a inside other) v = after_read (if atom_matches a packet then way inside v else way other v)
 way_from packet way (Byte a inside other) v = after_read (if atom_matches a packet then way inside v else way other v)
-way_from packet way (Read offset width mask inside other) v =
-    after_read (if nat_le (offset + width) (length packet) then way inside
-    (bit_and (field offset width packet) mask) else way other v)
+way_from packet way (Read a inside other) v =
+    after_read (if nat_le (a.offset + a.width) (length packet) then way inside
+    (bit_and (field a.offset a.width packet) a.mask) else way other v)
 way_from packet way (Below bound low high) v = if nat_lt v bound then way low v else way high v
 way_from packet way (Equal value inside other) v = if value == v then way inside v else way other v
 way_from packet way (Claim id other least) v = after_claim id (way other v)
@@ -44,6 +44,20 @@ way_among packet nodes (suc n) place v =
 abbrev pub way : List ℕ → List Node → ℕ → ℕ → Way
 way packet nodes place v = way_among packet nodes (suc place) place v
 
+-- the lowest claim that is found from a place on
+abbrev pub found_at : List ℕ → List Node → ℕ → ℕ → Option ℕ
+found_at packet nodes place v = (way packet nodes place v).found
+
+-- how many fields are read from a place on
+abbrev pub reads_at : List ℕ → List Node → ℕ → ℕ → ℕ
+reads_at packet nodes place v = (way packet nodes place v).reads
+
+-- a node at which nothing is tested: a claim or the end
+abbrev pub IsStop : Node → Type 0
+IsStop End = Unit {0}
+IsStop (Claim id other least) = Unit {0}
+IsStop node = ⊥
+
 -- from a place on no claim below a number is found
 pub record AreFrom (nodes : List Node) (least place : ℕ) : Type 0 where
   pub none : (packet : List ℕ) (v n : ℕ) → n < least → lower_number (Some n) (way packet nodes place v).found ≡ Some n
@@ -53,7 +67,7 @@ abbrev pub IsNode : List Node → ℕ → Node → Type 0
 IsNode nodes place End = Unit {0}
 IsNode nodes place (Test a inside other) = (is_atom a ≡ true) × (inside < place) × (other < place)
 IsNode nodes place (Byte a inside other) = (a.width ≡ 1) × (inside < place) × (other < place)
-IsNode nodes place (Read offset width mask inside other) = (is_width width ≡ true) × (inside < place) × (other < place)
+IsNode nodes place (Read a inside other) = (is_width a.width ≡ true) × (inside < place) × (other < place)
 IsNode nodes place (Below bound low high) = (low < place) × (high < place)
 IsNode nodes place (Equal value inside other) = (inside < place) × (other < place)
 IsNode nodes place (Claim id other least) = (other < place) × AreFrom nodes least other

@@ -4,6 +4,7 @@ ghost use Rattle.std.specs.Option.{option_map};
 ghost use Rattle.filter_tree.specs.ClaimBook.{are_numbered, claims_in, is_of_env};
 ghost use Rattle.filter_tree.specs.Prefixes.{prefixes};
 ghost use Rattle.filter_tree.specs.Claims.{atom_count, claim_answer, claim_for, claim_handler, claim_held, claim_refusal, claimed, delivered, downloaded, is_claim, is_into, without};
+ghost use Rattle.filter_tree.specs.Withdrawals.{is_withdrawn};
 
 use crate::claim::{Claim, ClaimNo};
 use crate::leaf::Leaf;
@@ -11,7 +12,7 @@ use crate::row::ClaimRow;
 use crate::search::{MOST_CLAIMS, claim_handler, claim_held, claim_numbered, has_into, refusal};
 use crate::steps::Steps;
 use crate::tree::Tree;
-use crate::withdrawal::{download, turn, withdraw, withdraw_into, withdraw_of};
+use crate::withdrawal::{Withdrawal, download, turn, withdraw};
 use aegis_limits::OutOfMemory;
 use filter_core::{Filter, Packet};
 use handler_rules::Handler;
@@ -143,8 +144,7 @@ impl Claims {
         ensures after { self.new ≡ without (is_claim env id) self.old }
     {
         let stood = self.held(env, id).is_some();
-        withdraw(&mut self.rows, env, id);
-        self.tree.withdraw(env, id);
+        self.withdraw(Withdrawal::Numbered { env, id });
         stood
     }
 
@@ -190,15 +190,21 @@ impl Claims {
         if !has_into(&self.rows, page) {
             return;
         }
-        withdraw_into(&mut self.rows, page);
-        self.tree.withdraw_into(page);
+        self.withdraw(Withdrawal::IntoPage(page));
     }
 
     /// Withdraws the claims of an environment.
     pub fn clear_env(&mut self, env: u8)
         ensures { self.new ≡ without (is_of_env env) self.old }
     {
-        withdraw_of(&mut self.rows, env);
-        self.tree.withdraw_of(env);
+        self.withdraw(Withdrawal::OfEnv(env));
+    }
+
+    /// Withdraws claims.
+    fn withdraw(&mut self, withdrawal: Withdrawal)
+        ensures { self.new ≡ without (is_withdrawn withdrawal) self.old }
+    {
+        withdraw(&mut self.rows, withdrawal);
+        self.tree.withdraw(withdrawal);
     }
 }

@@ -3,44 +3,37 @@ ghost use Rattle.std.specs.Prelude.{◌≡◌, ◌<◌, ◌≤◌, ◌+◌, ◌+
 ghost use Rattle.std.specs.List.{list_all};
 ghost use Rattle.std.specs.List.Sorted.{IsNonDecreasingBy};
 ghost use Rattle.filter_core.specs.Filters.{is_atom, most_atoms};
-ghost use Rattle.filter_tree.specs.Laying.{IsBegun, IsLaid, IsParted, first_asked, nodes_for, test_node};
+ghost use Rattle.filter_tree.specs.Laying.{IsBegun, IsLaid, IsParted, MayLay, first_asked, nodes_for, test_node};
 ghost use Rattle.filter_tree.specs.Nodes.{AreNodes, IsOnward};
-ghost use Rattle.filter_tree.specs.Tree.{AreInOrder, is_branch, leaf_value};
+ghost use Rattle.filter_tree.specs.Tree.{is_branch, leaf_value};
 
 use crate::branching::{behind, branch_length, front};
 use crate::leaf::Leaf;
 use crate::node::{Node, Onward};
 use filter_core::Atom;
 
-/// Lays a node. There is room for it. The answer is its place.
-pub(crate) fn push(nodes: &mut Vec<Node>, node: Node) -> u32
+/// Lays a node from which a search comes to no claim below the least number. There is room for it.
+fn push(nodes: &mut Vec<Node>, node: Node, least: u32) -> Onward
     requires room { length nodes.old.items < vec_capacity nodes.old }
     requires few { length nodes.old.items < 2 ^ 32 }
-    ensures place { result ≡ length nodes.old.items }
+    ensures place { result.place ≡ length nodes.old.items }
+    ensures least { result.least ≡ least }
     ensures nodes { nodes.new.items ≡ nodes.old.items ++ node ∷ [] }
     ensures room { vec_capacity nodes.old ≤ vec_capacity nodes.new }
 {
     let place = nodes.len() as u32;
     nodes.push(node).unwrap();
-    place
+    Onward { place, least }
 }
 
 /// The node that tests an atom.
-fn test_node(atom: Atom, inside: u32, other: u32) -> Node
-    ensures { result ≡ test_node atom inside other }
+fn test_node(atom: Atom, hit: u32, miss: u32) -> Node
+    ensures { result ≡ test_node atom hit miss }
 {
     if atom.width == 1 {
-        Node::Byte {
-            atom,
-            inside,
-            other,
-        }
+        Node::Byte { atom, hit, miss }
     } else {
-        Node::Test {
-            atom,
-            inside,
-            other,
-        }
+        Node::Test { atom, hit, miss }
     }
 }
 
@@ -51,22 +44,14 @@ pub(crate) fn lay_end(nodes: &mut Vec<Node>) -> Onward
     ensures begun { IsBegun nodes.new.items result }
     ensures room { vec_capacity nodes.old ≤ vec_capacity nodes.new }
 {
-    let place = push(nodes, Node::End);
-    Onward {
-        place,
-        least: u32::MAX,
-    }
+    push(nodes, Node::End, u32::MAX)
 }
 
 /// Lays leaves, whose atoms from a depth on are yet to be tested, in front of what comes next. There is room for their
 /// nodes.
 #[cycle(laying)]
 pub(crate) fn lay(nodes: &mut Vec<Node>, leaves: &[Leaf], depth: usize, next: Onward) -> Onward
-    requires order { AreInOrder depth leaves.now }
-    requires nodes { AreNodes nodes.old.items }
-    requires next { IsOnward nodes.old.items next }
-    requires room { length nodes.old.items + nodes_for depth leaves.now ≤ vec_capacity nodes.old }
-    requires few { length nodes.old.items + nodes_for depth leaves.now < 2 ^ 32 }
+    requires { MayLay depth leaves.now next nodes.old.items (vec_capacity nodes.old) }
     ensures laid { IsLaid depth leaves.now next nodes.old.items nodes.new.items result }
     ensures room { vec_capacity nodes.old ≤ vec_capacity nodes.new }
 {
@@ -98,15 +83,11 @@ fn lay_branch(
     atom: &Atom,
     next: Onward,
 ) -> Onward
-    requires order { AreInOrder depth leaves.now }
+    requires may { MayLay depth leaves.now next nodes.old.items (vec_capacity nodes.old) }
     requires atom { is_atom atom.now ≡ true }
     requires value { atom.now.value ≡ first_asked depth leaves.now }
     requires branch { is_branch depth atom.now leaves.now ≡ true }
     requires deep { depth < most_atoms }
-    requires nodes { AreNodes nodes.old.items }
-    requires next { IsOnward nodes.old.items next }
-    requires room { length nodes.old.items + nodes_for depth leaves.now ≤ vec_capacity nodes.old }
-    requires few { length nodes.old.items + nodes_for depth leaves.now < 2 ^ 32 }
     ensures laid { IsLaid depth leaves.now next nodes.old.items nodes.new.items result }
     ensures room { vec_capacity nodes.old ≤ vec_capacity nodes.new }
 {
@@ -114,28 +95,16 @@ fn lay_branch(
         None => {
             let inside = lay(nodes, leaves, depth + 1, next);
             let node = test_node(*atom, inside.place, next.place);
-            let place = push(nodes, node);
-            Onward {
-                place,
-                least: inside.least,
-            }
+            push(nodes, node, inside.least)
         }
         Some(_) => {
             let inside = lay_values(nodes, leaves, depth, atom, next);
-            let place = push(
-                nodes,
-                Node::Read {
-                    offset: atom.offset,
-                    width: atom.width,
-                    mask: atom.mask,
-                    inside: inside.place,
-                    other: next.place,
-                },
-            );
-            Onward {
-                place,
-                least: inside.least,
-            }
+            let node = Node::Read {
+                atom: *atom,
+                hit: inside.place,
+                miss: next.place,
+            };
+            push(nodes, node, inside.least)
         }
     }
 }
@@ -150,13 +119,9 @@ fn lay_values(
     atom: &Atom,
     next: Onward,
 ) -> Onward
-    requires order { AreInOrder depth leaves.now }
+    requires may { MayLay depth leaves.now next nodes.old.items (vec_capacity nodes.old) }
     requires branch { is_branch depth atom.now leaves.now ≡ true }
     requires deep { depth < most_atoms }
-    requires nodes { AreNodes nodes.old.items }
-    requires next { IsOnward nodes.old.items next }
-    requires room { length nodes.old.items + nodes_for depth leaves.now ≤ vec_capacity nodes.old }
-    requires few { length nodes.old.items + nodes_for depth leaves.now < 2 ^ 32 }
     ensures parted { IsParted depth leaves.now next nodes.old.items nodes.new.items result }
     ensures room { vec_capacity nodes.old ≤ vec_capacity nodes.new }
 {
@@ -164,34 +129,22 @@ fn lay_values(
         None => {
             let value = leaves[0].value(depth);
             let inside = lay(nodes, leaves, depth + 1, next);
-            let place = push(
-                nodes,
-                Node::Equal {
-                    value,
-                    inside: inside.place,
-                    other: next.place,
-                },
-            );
-            Onward {
-                place,
-                least: inside.least,
-            }
+            let node = Node::Equal {
+                value,
+                hit: inside.place,
+                miss: next.place,
+            };
+            push(nodes, node, inside.least)
         }
         Some(bound) => {
             let low = lay_values(nodes, below(leaves, depth, bound), depth, atom, next);
             let high = lay_values(nodes, from(leaves, depth, bound), depth, atom, next);
-            let place = push(
-                nodes,
-                Node::Below {
-                    bound,
-                    low: low.place,
-                    high: high.place,
-                },
-            );
-            Onward {
-                place,
-                least: low.least.min(high.least),
-            }
+            let node = Node::Below {
+                bound,
+                low: low.place,
+                high: high.place,
+            };
+            push(nodes, node, low.least.min(high.least))
         }
     }
 }
@@ -207,18 +160,12 @@ fn lay_claim(nodes: &mut Vec<Node>, leaf: &Leaf, depth: usize, next: Onward) -> 
     ensures room { vec_capacity nodes.old ≤ vec_capacity nodes.new }
 {
     let id = leaf.id();
-    let place = push(
-        nodes,
-        Node::Claim {
-            id,
-            other: next.place,
-            least: next.least,
-        },
-    );
-    Onward {
-        place,
-        least: next.least.min(id),
-    }
+    let node = Node::Claim {
+        id,
+        other: next.place,
+        least: next.least,
+    };
+    push(nodes, node, next.least.min(id))
 }
 
 /// Lays a single leaf: its atoms are tested one after another.
@@ -236,11 +183,7 @@ fn lay_alone(nodes: &mut Vec<Node>, leaf: &Leaf, depth: usize, next: Onward) -> 
     while left > depth {
         left -= 1;
         let node = test_node(atoms[left], inside.place, next.place);
-        let place = push(nodes, node);
-        inside = Onward {
-            place,
-            least: inside.least,
-        };
+        inside = push(nodes, node, inside.least);
     }
     inside
 }

@@ -1,10 +1,10 @@
 //! The leaves of the tree of claims.
 ghost use Rattle.std.specs.Prelude.{◌≡◌, ◌<◌, ◌≤◌, ◌+◌, [], ◌∷◌, drop, length, IfNone, IfSome, true};
 ghost use Rattle.filter_core.specs.Filters.{is_atom, most_atoms};
-ghost use Rattle.filter_tree.specs.ClaimBook.{is_of_env};
-ghost use Rattle.filter_tree.specs.Claims.{is_claim, is_into};
 ghost use Rattle.filter_tree.specs.Tree.{begins, has_shape, is_before, numbers, leaf_value};
+ghost use Rattle.filter_tree.specs.Withdrawals.{is_withdrawn};
 
+use crate::withdrawal::Withdrawal;
 use filter_core::{Atom, Filter};
 use std::marker::Model;
 
@@ -33,25 +33,11 @@ impl Leaf {
         self.id
     }
 
-    /// Whether it is the environment's.
-    pub(crate) fn is_of_env(&self, env: u8) -> bool
-        ensures { result ≡ is_of_env env self.now }
+    /// Whether it is withdrawn.
+    pub(crate) fn is_withdrawn(&self, withdrawal: Withdrawal) -> bool
+        ensures { result ≡ is_withdrawn withdrawal self.now }
     {
-        self.env == env
-    }
-
-    /// Whether it is the environment's claim of this number.
-    pub(crate) fn is_claim(&self, env: u8, id: u32) -> bool
-        ensures { result ≡ is_claim env id self.now }
-    {
-        self.id == id && self.env == env
-    }
-
-    /// Whether its packets go into the page.
-    pub(crate) fn is_into(&self, page: u32) -> bool
-        ensures { result ≡ is_into page self.now }
-    {
-        self.page == page
+        withdrawal.takes(self.id, self.env, self.page)
     }
 
     /// The atom at a depth of the tree.

@@ -6,44 +6,18 @@ use filter_core::Atom;
 pub(crate) enum Node {
     /// The search ends.
     End,
-    /// An atom decides where the search goes on: inside if it matches.
-    Test {
-        atom: Atom,
-        inside: u32,
-        other: u32,
-    },
+    /// An atom decides where the search goes on: at the one place if it matches, at the other if not.
+    Test { atom: Atom, hit: u32, miss: u32 },
     /// The same, where the atom's field is one byte.
-    Byte {
-        atom: Atom,
-        inside: u32,
-        other: u32,
-    },
-    /// A field is read; if it lies in the packet, the nodes inside decide by its bits under the mask.
-    Read {
-        offset: u16,
-        width: u8,
-        mask: u32,
-        inside: u32,
-        other: u32,
-    },
+    Byte { atom: Atom, hit: u32, miss: u32 },
+    /// The field of an atom is read; if it lies in the packet, the nodes behind decide by its bits under the mask.
+    Read { atom: Atom, hit: u32, miss: u32 },
     /// What was read last is below a bound, or not.
-    Below {
-        bound: u32,
-        low: u32,
-        high: u32,
-    },
+    Below { bound: u32, low: u32, high: u32 },
     /// What was read last is a value, or not.
-    Equal {
-        value: u32,
-        inside: u32,
-        other: u32,
-    },
+    Equal { value: u32, hit: u32, miss: u32 },
     /// A claim whose filter matches. No claim to which the search can still come is below the least number.
-    Claim {
-        id: u32,
-        other: u32,
-        least: u32,
-    },
+    Claim { id: u32, other: u32, least: u32 },
 }
 
 /// Where a search goes on.

@@ -2,9 +2,11 @@
 ghost use Rattle.std.specs.Prelude.{◌≡◌};
 ghost use Rattle.std.specs.Option.{option_map};
 ghost use Rattle.filter_tree.specs.ClaimBook.{is_of_env};
-ghost use Rattle.filter_tree.specs.Claims.{claim_seen, row_with_handler, is_claim, is_in_the_way, is_into, is_numbered, row_after_packet};
+ghost use Rattle.filter_tree.specs.Claims.{claim_seen, row_with_handler, is_in_the_way, is_into, is_numbered, row_after_packet};
+ghost use Rattle.filter_tree.specs.Withdrawals.{is_withdrawn};
 
 use crate::claim::Claim;
+use crate::withdrawal::Withdrawal;
 use filter_core::{Filter, Layout};
 use handler_rules::Handler;
 use std::marker::Model;
@@ -40,11 +42,11 @@ impl ClaimRow {
         self.claim.env == env
     }
 
-    /// Whether it is the environment's claim of this number.
-    pub(crate) fn is_claim(&self, env: u8, id: u32) -> bool
-        ensures { result ≡ is_claim env id self.now.claim }
+    /// Whether it is withdrawn.
+    pub(crate) fn is_withdrawn(&self, withdrawal: Withdrawal) -> bool
+        ensures { result ≡ is_withdrawn withdrawal self.now.claim }
     {
-        self.claim.id == id && self.claim.env == env
+        withdrawal.takes(self.claim.id, self.claim.env, self.claim.page)
     }
 
     /// Whether its packets go into the page.

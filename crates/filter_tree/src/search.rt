@@ -1,8 +1,8 @@
 //! Searches through the claims: for one of a number at its distance from the first or by halving, and else through all.
 ghost use Rattle.std.specs.Prelude.{◌≡◌, ◌<◌, IfNone, IfSome, None, Some, count_by, find, length, slice_index_or};
 ghost use Rattle.std.specs.List.{list_any};
-ghost use Rattle.std.specs.Option.{option_flatten, option_map};
-ghost use Rattle.filter_tree.specs.Keeping.{AreRising, row_refusal};
+ghost use Rattle.std.specs.Option.{option_map};
+ghost use Rattle.filter_tree.specs.Keeping.{AreRising, handler_numbered, row_refusal};
 ghost use Rattle.filter_tree.specs.ClaimBook.{RowValue, is_of_env};
 ghost use Rattle.filter_tree.specs.Claims.{claim_seen, is_claim, is_in_the_way, is_into, row_numbered};
 
@@ -112,7 +112,7 @@ pub(crate) fn claim_held(rows: &[ClaimRow], env: u8, id: u32) -> Option<Claim>
 /// The handler of the claim of this number, if it has one.
 pub(crate) fn claim_handler(rows: &[ClaimRow], id: u32) -> Option<&Handler>
     requires { AreRising rows.now }
-    ensures { option_map (λ handler. handler.now) result ≡ option_flatten (option_map (λ (r : RowValue). r.handler) (row_numbered id rows.now)) }
+    ensures { option_map (λ handler. handler.now) result ≡ handler_numbered id rows.now }
 {
     rows[place_numbered(rows, id)?].handler()
 }

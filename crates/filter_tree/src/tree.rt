@@ -1,9 +1,9 @@
 //! The tree of claims.
 ghost use Rattle.std.specs.Prelude.{◌≡◌, ◌<◌, ◌≤◌, ◌+◌, ◌^◌, [], filter, length, not, IfOk};
-ghost use Rattle.filter_tree.specs.ClaimBook.{is_of_env};
-ghost use Rattle.filter_tree.specs.Claims.{is_claim, is_for, is_into};
+ghost use Rattle.filter_tree.specs.Claims.{is_for};
 ghost use Rattle.filter_tree.specs.Prefixes.{prefixes_from};
 ghost use Rattle.filter_tree.specs.Tree.{lowest, leaf_place, planted};
+ghost use Rattle.filter_tree.specs.Withdrawals.{is_withdrawn};
 
 use crate::branch::{Branch, lay_out};
 use crate::laying::lay_end;
@@ -11,6 +11,7 @@ use crate::leaf::Leaf;
 use crate::node::Node;
 use crate::steps::Steps;
 use crate::walk::walk;
+use crate::withdrawal::Withdrawal;
 use aegis_limits::OutOfMemory;
 use filter_core::{Filter, Packet};
 use std::alloc::Global;
@@ -101,30 +102,12 @@ impl Tree {
         walk(&self.nodes, self.start, packet, steps)
     }
 
-    /// Takes the environment's claim of this number away.
-    pub(crate) fn withdraw(&mut self, env: u8, id: u32)
-        ensures leaves { self.new.leaves ≡ filter (λ c. not (is_claim env id c)) self.old.leaves }
+    /// Takes claims away.
+    pub(crate) fn withdraw(&mut self, withdrawal: Withdrawal)
+        ensures leaves { self.new.leaves ≡ filter (λ c. not (is_withdrawn withdrawal c)) self.old.leaves }
         ensures room { self.new.room ≡ self.old.room }
     {
-        self.leaves.retain(|leaf| !leaf.is_claim(env, id));
-        self.start = lay_out(&self.leaves, &mut self.branches, &mut self.nodes);
-    }
-
-    /// Takes the claims away whose packets go into a page.
-    pub(crate) fn withdraw_into(&mut self, page: u32)
-        ensures leaves { self.new.leaves ≡ filter (λ c. not (is_into page c)) self.old.leaves }
-        ensures room { self.new.room ≡ self.old.room }
-    {
-        self.leaves.retain(|leaf| !leaf.is_into(page));
-        self.start = lay_out(&self.leaves, &mut self.branches, &mut self.nodes);
-    }
-
-    /// Takes the claims of an environment away.
-    pub(crate) fn withdraw_of(&mut self, env: u8)
-        ensures leaves { self.new.leaves ≡ filter (λ c. not (is_of_env env c)) self.old.leaves }
-        ensures room { self.new.room ≡ self.old.room }
-    {
-        self.leaves.retain(|leaf| !leaf.is_of_env(env));
+        self.leaves.retain(|leaf| !leaf.is_withdrawn(withdrawal));
         self.start = lay_out(&self.leaves, &mut self.branches, &mut self.nodes);
     }
 }

@@ -3,7 +3,7 @@ ghost use Rattle.std.specs.Prelude.{ℕ, ◌≡◌, ◌<◌, ◌≤◌, ◌+◌,
 ghost use Rattle.filter_core.specs.declared.atom.Atom.{Atom as FilterAtom};
 ghost use Rattle.filter_core.specs.Matching.{atom_matches};
 ghost use Rattle.filter_tree.specs.declared.node.Node.TheVariants.{Byte, End};
-ghost use Rattle.filter_tree.specs.Nodes.{AreNodes, way};
+ghost use Rattle.filter_tree.specs.Nodes.{AreNodes, IsStop, found_at, reads_at};
 ghost use Rattle.filter_tree.specs.Tree.{lower_number};
 
 use crate::node::Node;
@@ -23,13 +23,13 @@ fn lower_number(found: Option<u32>, id: u32) -> u32
 
 /// Where a search goes on behind a test of one byte.
 #[inline(always)]
-fn onward(atom: &Atom, inside: u32, other: u32, packet: &Packet<'_>) -> u32
+fn onward(atom: &Atom, hit: u32, miss: u32, packet: &Packet<'_>) -> u32
     requires { atom.now.width ≡ 1 }
-    ensures { result ≡ (if atom_matches atom.now packet.now then inside else other) }
+    ensures { result ≡ (if atom_matches atom.now packet.now then hit else miss) }
 {
     match packet.bytes().get(usize::from(atom.offset)) {
-        Some(byte) if u32::from(*byte) & atom.mask == atom.value => inside,
-        _ => other,
+        Some(byte) if u32::from(*byte) & atom.mask == atom.value => hit,
+        _ => miss,
     }
 }
 
@@ -44,21 +44,58 @@ fn past_bytes<L: StepLedger>(
 ) -> u32
     requires nodes { AreNodes nodes.now }
     requires within { start < length nodes.now }
-    ensures onward { (a : FilterAtom) (inside other : ℕ) → slice_index_or nodes.now start End ≡ Byte a inside other → result < start }
-    ensures found { (v : ℕ) → (way packet.now nodes.now result v).found ≡ (way packet.now nodes.now start v).found }
-    ensures steps { (v : ℕ) → steps.new + (way packet.now nodes.now result v).reads ≤ steps.old + (way packet.now nodes.now start v).reads }
+    ensures onward { (a : FilterAtom) (hit miss : ℕ) → slice_index_or nodes.now start End ≡ Byte a hit miss → result < start }
+    ensures found { (v : ℕ) → found_at packet.now nodes.now result v ≡ found_at packet.now nodes.now start v }
+    ensures steps { (v : ℕ) → steps.new + reads_at packet.now nodes.now result v ≤ steps.old + reads_at packet.now nodes.now start v }
 {
     let mut place = start;
-    while let Node::Byte {
-        atom,
-        inside,
-        other,
-    } = &nodes[place as usize]
-    {
+    while let Node::Byte { atom, hit, miss } = &nodes[place as usize] {
         steps.tick();
-        place = onward(atom, *inside, *other, packet);
+        place = onward(atom, *hit, *miss, packet);
     }
     place
+}
+
+/// The place of the first claim to which a search comes, or of its end. It begins at a place, and what it read last may
+/// decide where it goes. Each field that is read of the packet is a step.
+#[inline(always)]
+fn past_tests<L: StepLedger>(
+    nodes: &[Node],
+    start: u32,
+    read: &mut u32,
+    packet: &Packet<'_>,
+    steps: &mut Steps<L>,
+) -> u32
+    requires nodes { AreNodes nodes.now }
+    requires within { start < length nodes.now }
+    ensures onward { result ≤ start }
+    ensures stop { IsStop (slice_index_or nodes.now result End) }
+    ensures found { found_at packet.now nodes.now result read.new ≡ found_at packet.now nodes.now start read.old }
+    ensures steps { steps.new + reads_at packet.now nodes.now result read.new ≤ steps.old + reads_at packet.now nodes.now start read.old }
+{
+    let mut place = start;
+    loop {
+        match &nodes[place as usize] {
+            Node::Test { atom, hit, miss } => {
+                steps.tick();
+                place = if atom.matches(packet) { *hit } else { *miss };
+            }
+            Node::Byte { .. } => place = past_bytes(nodes, place, packet, steps),
+            Node::Read { atom, hit, miss } => {
+                steps.tick();
+                match packet.field(atom.offset, atom.width) {
+                    Some(field) => {
+                        *read = field & atom.mask;
+                        place = *hit;
+                    }
+                    None => place = *miss,
+                }
+            }
+            Node::Below { bound, low, high } => place = if *read < *bound { *low } else { *high },
+            Node::Equal { value, hit, miss } => place = if *value == *read { *hit } else { *miss },
+            Node::End | Node::Claim { .. } => return place,
+        }
+    }
 }
 
 /// The lowest claim that a search finds for a packet which begins at a place. Each field that is read of the packet is a
@@ -71,50 +108,15 @@ pub(crate) fn walk<L: StepLedger>(
 ) -> Option<u32>
     requires nodes { AreNodes nodes.now }
     requires start { start < length nodes.now }
-    ensures answer { result ≡ (way packet.now nodes.now start 0).found }
-    ensures steps { steps.new ≤ steps.old + (way packet.now nodes.now start 0).reads }
+    ensures answer { result ≡ found_at packet.now nodes.now start 0 }
+    ensures steps { steps.new ≤ steps.old + reads_at packet.now nodes.now start 0 }
 {
     let mut place = start;
     let mut read = 0;
     let mut found = None;
     loop {
+        place = past_tests(nodes, place, &mut read, packet, steps);
         match &nodes[place as usize] {
-            Node::End => return found,
-            Node::Test {
-                atom,
-                inside,
-                other,
-            } => {
-                steps.tick();
-                if atom.matches(packet) {
-                    place = *inside;
-                } else {
-                    place = *other;
-                }
-            }
-            Node::Byte { .. } => place = past_bytes(nodes, place, packet, steps),
-            Node::Read {
-                offset,
-                width,
-                mask,
-                inside,
-                other,
-            } => {
-                steps.tick();
-                match packet.field(*offset, *width) {
-                    Some(field) => {
-                        read = field & *mask;
-                        place = *inside;
-                    }
-                    None => place = *other,
-                }
-            }
-            Node::Below { bound, low, high } => place = if read < *bound { *low } else { *high },
-            Node::Equal {
-                value,
-                inside,
-                other,
-            } => place = if *value == read { *inside } else { *other },
             Node::Claim { id, other, least } => {
                 let lowest = lower_number(found, *id);
                 if lowest < *least {
@@ -123,6 +125,7 @@ pub(crate) fn walk<L: StepLedger>(
                 found = Some(lowest);
                 place = *other;
             }
+            _ => return found,
         }
     }
 }

@@ -2,35 +2,47 @@
 ghost use Rattle.std.specs.Prelude.{◌≡◌, filter, map, not, vec_capacity};
 ghost use Rattle.std.specs.Option.{option_map};
 ghost use Rattle.filter_tree.specs.Keeping.{AreRising};
-ghost use Rattle.filter_tree.specs.ClaimBook.{RowValue, is_of_env};
-ghost use Rattle.filter_tree.specs.Claims.{row_with_handler_if, is_claim, is_into, row_after_packet_if};
+ghost use Rattle.filter_tree.specs.ClaimBook.{RowValue};
+ghost use Rattle.filter_tree.specs.Withdrawals.{is_withdrawn, takes};
+ghost use Rattle.filter_tree.specs.Claims.{row_with_handler_if, row_after_packet_if};
 
 use crate::row::ClaimRow;
 use crate::search::place_numbered;
 use handler_rules::Handler;
 
-/// Withdraws the environment's claim of this number.
-pub(crate) fn withdraw(rows: &mut Vec<ClaimRow>, env: u8, id: u32)
-    ensures rows { rows.new.items ≡ filter (λ (r : RowValue). not (is_claim env id r.claim)) rows.old.items }
-    ensures room { vec_capacity rows.new ≡ vec_capacity rows.old }
-{
-    rows.retain(|row| !row.is_claim(env, id));
+/// Which claims are withdrawn.
+#[derive(Clone, Copy)]
+pub(crate) enum Withdrawal {
+    /// The environment's claim of this number.
+    Numbered { env: u8, id: u32 },
+    /// Those whose packets go into this page.
+    IntoPage(u32),
+    /// Those of this environment.
+    OfEnv(u8),
 }
 
-/// Withdraws the claims whose packets go into a page.
-pub(crate) fn withdraw_into(rows: &mut Vec<ClaimRow>, page: u32)
-    ensures rows { rows.new.items ≡ filter (λ (r : RowValue). not (is_into page r.claim)) rows.old.items }
-    ensures room { vec_capacity rows.new ≡ vec_capacity rows.old }
-{
-    rows.retain(|row| !row.is_into(page));
+impl Withdrawal {
+    /// Whether a claim of this number, which the environment made for a page, is withdrawn.
+    pub(crate) fn takes(self, id: u32, env: u8, page: u32) -> bool
+        ensures { result ≡ takes self id env page }
+    {
+        match self {
+            Withdrawal::Numbered {
+                env: own,
+                id: number,
+            } => id == number && env == own,
+            Withdrawal::IntoPage(own) => page == own,
+            Withdrawal::OfEnv(own) => env == own,
+        }
+    }
 }
 
-/// Withdraws the claims of an environment.
-pub(crate) fn withdraw_of(rows: &mut Vec<ClaimRow>, env: u8)
-    ensures rows { rows.new.items ≡ filter (λ (r : RowValue). not (is_of_env env r.claim)) rows.old.items }
+/// Withdraws claims.
+pub(crate) fn withdraw(rows: &mut Vec<ClaimRow>, withdrawal: Withdrawal)
+    ensures rows { rows.new.items ≡ filter (λ (r : RowValue). not (is_withdrawn withdrawal r.claim)) rows.old.items }
     ensures room { vec_capacity rows.new ≡ vec_capacity rows.old }
 {
-    rows.retain(|row| !row.is_of_env(env));
+    rows.retain(|row| !row.is_withdrawn(withdrawal));
 }
 
 /// The next packet of the claim of this number goes into the other buffer.

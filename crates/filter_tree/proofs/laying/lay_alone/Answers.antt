@@ -25,8 +25,8 @@ loop-left-preserved c =
     record {
       above = omega (arith, c.loop-left-test.true);
       within = λ _. omega (arith, within);
-      laid = test_laid left a (leaf ∷ []) c.args.next c.loop-left.inside _ c.args.nodes.now.items c.loop-left.nodes.items c.push-place.new.nodes.items c.requires.next good alone.0 alone.1 laid
-          c.push-place.ensures.place refl
-          (c.push-place.ensures.nodes ∙ ap (λ n. c.loop-left.nodes.items ++ n ∷ []) c.test_node-node.ensures ∙ ap (λ f. c.loop-left.nodes.items ++ test_node (slice_index_or f left none) c.loop-left.inside.place c.args.next.place ∷ []) (c.atoms-atoms.ensures.atoms ∙ inside));
-      room = omega (arith, c.push-place.ensures.room, c.loop-left.invariant.room);
+      laid = test_laid left a (leaf ∷ []) c.args.next c.loop-left.inside _ c.args.nodes.now.items c.loop-left.nodes.items c.push-inside.new.nodes.items c.requires.next good alone.0 alone.1 laid
+          c.push-inside.ensures.place c.push-inside.ensures.least
+          (c.push-inside.ensures.nodes ∙ ap (λ n. c.loop-left.nodes.items ++ n ∷ []) c.test_node-node.ensures ∙ ap (λ f. c.loop-left.nodes.items ++ test_node (slice_index_or f left none) c.loop-left.inside.place c.args.next.place ∷ []) (c.atoms-atoms.ensures.atoms ∙ inside));
+      room = omega (arith, c.push-inside.ensures.room, c.loop-left.invariant.room);
     }

@@ -2,4 +2,4 @@ use Rattle.filter_tree.proofs.Laid.{begun}
 use Rattle.filter_tree.proofs.laying.lay_end.Goals as goal
 
 pub returns-clause-begun : goal.returns-clause-begun
-returns-clause-begun c = begun c.args.nodes.now.items c.push-place.new.nodes.items _ c.requires.none c.push-place.ensures.place c.push-place.ensures.nodes
+returns-clause-begun c = begun c.args.nodes.now.items c.push.new.nodes.items _ c.requires.none c.push.ensures.place c.push.ensures.nodes

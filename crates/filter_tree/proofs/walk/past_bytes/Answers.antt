@@ -15,20 +15,20 @@ loop-place-preserved g c =
     let nodes = c.args.nodes.now in
     let packet = c.args.packet.now in
     let a = c.in-Byte.atom in
-    let node = Byte a c.in-Byte.inside c.in-Byte.other in
+    let node = Byte a c.in-Byte.hit c.in-Byte.miss in
     let below : c.loop-place.place < length nodes = omega (arith, c.loop-place.invariant.within, c.requires.within) in
     let good = is_node nodes c.loop-place.place node c.requires.nodes below c.in-Byte.is in
     let here = λ (v : ℕ). way_at packet nodes c.loop-place.place v node c.requires.nodes below c.in-Byte.is in
     elim (cases_Bool (atom_matches a packet)) [
       | inl is ↦
-          let onward : c.onward-place.result ≡ c.in-Byte.inside = rw is at c.onward-place.ensures in
+          let onward : c.onward-place.result ≡ c.in-Byte.hit = rw is at c.onward-place.ensures in
           record {
             within = omega (arith, good.1, onward, c.loop-place.invariant.within);
             found = λ v. rw onward (ap (λ (w : Way). w.found) (sym (rw is at (here v))) ∙ c.loop-place.invariant.found v);
             steps = λ v. rw onward (omega (arith, ap (λ (w : Way). w.reads) (rw is at (here v)), c.loop-place.invariant.steps v, c.tick.ensures));
           }
       | inr differs ↦
-          let onward : c.onward-place.result ≡ c.in-Byte.other = rw differs at c.onward-place.ensures in
+          let onward : c.onward-place.result ≡ c.in-Byte.miss = rw differs at c.onward-place.ensures in
           record {
             within = omega (arith, good.2, onward, c.loop-place.invariant.within);
             found = λ v. rw onward (ap (λ (w : Way). w.found) (sym (rw differs at (here v))) ∙ c.loop-place.invariant.found v);
@@ -37,9 +37,9 @@ loop-place-preserved g c =
     ]
 
 pub returns-clause-onward : goal.returns-clause-onward
-returns-clause-onward g c = λ a inside other is.
+returns-clause-onward g c = λ a hit miss is.
     let nodes = c.args.nodes.now in
     elim (cases_eq c.loop-place.place c.args.start) [
-      | inl same ↦ absurd (c.in_default.not-Byte a inside other (ap (λ n. slice_index_or nodes n End) same ∙ is))
+      | inl same ↦ absurd (c.in_default.not-Byte a hit miss (ap (λ n. slice_index_or nodes n End) same ∙ is))
       | inr other ↦ omega (arith, other, c.loop-place.invariant.within)
     ]
