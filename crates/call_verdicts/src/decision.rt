@@ -1,8 +1,12 @@
 //! The verdict on a call, and what it does where it is granted.
-ghost use Rattle.std.specs.Prelude.{◌≡◌, ◌<◌, ◌^◌, Some};
+ghost use Rattle.std.specs.Prelude.{◌≡◌, ◌<◌, ◌^◌, ◌==◌, Some};
 ghost use Rattle.aegis_limits.specs.Limits.{environment_numbers};
 ghost use Rattle.world_model.specs.Book.{running};
-ghost use Rattle.world_model.specs.Call.{deed_of as deed_of_call};
+ghost use Rattle.env_frames.specs.Context.{context_numbered};
+ghost use Rattle.env_frames.specs.Transfer.{transfer_numbered};
+ghost use Rattle.mips_exec.specs.Cpu.{reg};
+ghost use Rattle.world_model.specs.declared.call.Deed.TheVariants.{Claims, Downloads};
+ghost use Rattle.world_model.specs.Call.{any, context_deed, deed_of as deed_of_call, line_deed, transfer_deed, yield_deed};
 ghost use Rattle.world_model.specs.Verdict.{verdict};
 
 use crate::arguments::{
@@ -90,7 +94,8 @@ pub fn deed_of(call: Option<Call>, value: u32, cpu: &Cpu) -> Deed
     }
 }
 
-/// The same of a call by its name. Both are inlined where the deed is done: elsewhere it would be copied and read again.
+/// The same of a call by its name. It is inlined where the deed is done, with what it calls: elsewhere it would be copied
+/// and read again.
 #[inline(always)]
 fn named_deed(call: Call, value: u32, cpu: &Cpu) -> Deed
     ensures { result ≡ deed_of_call (Some call) value cpu.now }
@@ -98,8 +103,7 @@ fn named_deed(call: Call, value: u32, cpu: &Cpu) -> Deed
     let first = cpu.reg(FIRST_ARGUMENT);
     let second = cpu.reg(SECOND_ARGUMENT);
     match call {
-        Call::Yield if first == ANY => Deed::Stops,
-        Call::Yield => Deed::Gives(first),
+        Call::Yield => yield_deed(first),
         Call::Put => Deed::Own(OwnDeed::Puts {
             address: first,
             size: second,
@@ -118,42 +122,91 @@ fn named_deed(call: Call, value: u32, cpu: &Cpu) -> Deed
             word: presented(cpu),
         },
         Call::Unbind => Deed::Unbinds(first),
-        Call::Context => match Context::numbered(first) {
-            Some(context) => Deed::Own(OwnDeed::Handles {
-                context,
-                address: second,
-            }),
-            None => Deed::Answers,
-        },
+        Call::Context => context_deed(first, second),
         Call::Accept => Deed::Own(OwnDeed::Accepts(first)),
-        Call::Transfer => match TransferKind::numbered(second) {
-            Some(kind) => Deed::Transfers {
-                target: first,
-                kind,
-            },
-            None => Deed::Answers,
-        },
+        Call::Transfer => transfer_deed(first, second),
         Call::SlotTake => Deed::TakesSlot(first),
         Call::SlotDrop => Deed::DropsSlot(first),
-        Call::Claim => Deed::Claims {
-            claim: value,
-            address: first,
-            atoms: second,
-            page: cpu.reg(THIRD_ARGUMENT),
-        },
+        Call::Claim => claim_deed(value, cpu),
         Call::Unclaim => Deed::Unclaims(first),
-        Call::Handler => Deed::Downloads {
-            claim: first,
-            address: second,
-            words: cpu.reg(THIRD_ARGUMENT),
-        },
-        Call::Line if second == TAKE => Deed::TakesLine(first),
-        Call::Line => Deed::DropsLine(first),
+        Call::Handler => download_deed(cpu),
+        Call::Line => line_deed(first, second),
         Call::Backup => Deed::Loads(first),
         Call::Send => Deed::Own(OwnDeed::Sends {
             address: first,
             size: second,
         }),
         Call::Query | Call::OwnNumber | Call::Clock => Deed::Answers,
+    }
+}
+
+/// What a call of `Yield` does: it gives the slice to an environment, or to any.
+#[inline(always)]
+fn yield_deed(target: u32) -> Deed
+    ensures { result ≡ yield_deed target (target == any) }
+{
+    if target == ANY {
+        Deed::Stops
+    } else {
+        Deed::Gives(target)
+    }
+}
+
+/// What a call of `Context` does: the context of this number gets an address.
+#[inline(always)]
+fn context_deed(number: u32, address: u32) -> Deed
+    ensures { result ≡ context_deed (context_numbered number) address }
+{
+    match Context::numbered(number) {
+        Some(context) => Deed::Own(OwnDeed::Handles { context, address }),
+        None => Deed::Answers,
+    }
+}
+
+/// What a call of `Transfer` does, whose kind has this number.
+#[inline(always)]
+fn transfer_deed(target: u32, kind: u32) -> Deed
+    ensures { result ≡ transfer_deed target (transfer_numbered kind) }
+{
+    match TransferKind::numbered(kind) {
+        Some(kind) => Deed::Transfers { target, kind },
+        None => Deed::Answers,
+    }
+}
+
+/// What a call of `Claim` does that is granted with the number of the claim.
+#[inline(always)]
+fn claim_deed(claim: u32, cpu: &Cpu) -> Deed
+    ensures { result ≡ Claims claim (reg cpu.now 4) (reg cpu.now 5) (reg cpu.now 6) }
+{
+    Deed::Claims {
+        claim,
+        address: cpu.reg(FIRST_ARGUMENT),
+        atoms: cpu.reg(SECOND_ARGUMENT),
+        page: cpu.reg(THIRD_ARGUMENT),
+    }
+}
+
+/// What a call of `Handler` does: the claim of a number gets the handler whose words stand at an address.
+#[inline(always)]
+fn download_deed(cpu: &Cpu) -> Deed
+    ensures { result ≡ Downloads (reg cpu.now 4) (reg cpu.now 5) (reg cpu.now 6) }
+{
+    Deed::Downloads {
+        claim: cpu.reg(FIRST_ARGUMENT),
+        address: cpu.reg(SECOND_ARGUMENT),
+        words: cpu.reg(THIRD_ARGUMENT),
+    }
+}
+
+/// What a call of `Line` does: it takes the line or drops it.
+#[inline(always)]
+fn line_deed(line: u32, act: u32) -> Deed
+    ensures { result ≡ line_deed line (act == 1) }
+{
+    if act == TAKE {
+        Deed::TakesLine(line)
+    } else {
+        Deed::DropsLine(line)
     }
 }
