@@ -57,6 +57,10 @@ most_stack_pages = 16
 abbrev pub console_size : ℕ
 console_size = 65536
 
--- the ticks of a run
+-- the ticks of a machine: time ends here
 abbrev pub most_ticks : ℕ
-most_ticks = 4194304
+most_ticks = 268435456
+
+-- the ticks that `run` makes, and each side of `twin`; no event of a schedule comes later
+abbrev pub most_run_ticks : ℕ
+most_run_ticks = 4194304

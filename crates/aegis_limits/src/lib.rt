@@ -9,13 +9,16 @@ mod memory;
 mod version;
 
 ghost use Rattle.std.specs.Prelude.{◌≡◌};
-ghost use Rattle.aegis_limits.specs.Limits.{page_size, vpn_end, stack_end, least_pages, most_pages, least_quantum, most_quantum, most_environments, environment_numbers, excess_limit, most_stripe_rows, most_slots, most_mappings, most_stack_pages, console_size, most_ticks};
+ghost use Rattle.aegis_limits.specs.Limits.{page_size, vpn_end, stack_end, least_pages, most_pages, least_quantum, most_quantum, most_environments, environment_numbers, excess_limit, most_stripe_rows, most_slots, most_mappings, most_stack_pages, console_size, most_ticks, most_run_ticks};
 
 pub use memory::OutOfMemory;
 pub use version::{Version, law_versions_are_within};
 
 /// The bytes of a page.
 pub const PAGE_SIZE: usize = 4096;
+
+/// The same as a difference of addresses.
+pub const PAGE_BYTES: u32 = PAGE_SIZE as u32;
 
 /// The VPNs of user addresses, which are these addresses over the size of a page, lie below this one.
 pub const VPN_END: u32 = 0x80000;
@@ -60,12 +63,16 @@ pub const MOST_STACK_PAGES: u32 = 16;
 /// The bytes that a console holds at most.
 pub const CONSOLE_SIZE: usize = 65_536;
 
-/// The most ticks of a run: time ends here.
-pub const MOST_TICKS: u32 = 4_194_304;
+/// The most ticks of a machine: time ends here.
+pub const MOST_TICKS: u32 = 268_435_456;
+
+/// The most ticks that `run` makes, and each side of `twin`. No event of a schedule comes later.
+pub const MOST_RUN_TICKS: u32 = 4_194_304;
 
 /// Law: the constants are the limits.
 pub fn constants_are_the_limits()
     ensures page { PAGE_SIZE ≡ page_size }
+    ensures page_bytes { PAGE_BYTES ≡ page_size }
     ensures vpns { VPN_END ≡ vpn_end }
     ensures stack_highest { STACK_END ≡ stack_end }
     ensures pages_least { LEAST_PAGES ≡ least_pages }
@@ -81,4 +88,5 @@ pub fn constants_are_the_limits()
     ensures stack { MOST_STACK_PAGES ≡ most_stack_pages }
     ensures console { CONSOLE_SIZE ≡ console_size }
     ensures ticks { MOST_TICKS ≡ most_ticks }
+    ensures run_ticks { MOST_RUN_TICKS ≡ most_run_ticks }
 {}

@@ -18,7 +18,7 @@ use Rattle.line_text.specs.Number.{digits_number, number_of, number_within}
 use Rattle.line_text.specs.Words.{before_comment, is_word, line_words}
 use Rattle.external_event.specs.declared.event.Occurrence.TheVariants.{Packet}
 use Rattle.external_event.specs.Packet.{packet_of}
-use Rattle.aegis_limits.specs.Limits.{most_ticks}
+use Rattle.aegis_limits.specs.Limits.{most_run_ticks}
 use Rattle.boot_schedule.specs.Saying.{event_at, said}
 
 -- a byte of a word: a text's, no blank and not what a comment begins with
@@ -105,10 +105,10 @@ three_words a b c first second third some more last =
     rw (text, bare, parts, some_word a (b ∷ c ∷ []) some, some_word b (c ∷ []) more, some_word c [] last) refl
 
 -- a line whose time is a number, with the word of packets behind it and bytes behind that
-pub line_said : (line bytes packet : List ℕ) (place time : ℕ) (digits : List ℕ) → drop place line ≡ codes " packet " ++ digits → number_within 0 most_ticks (take place line) ≡ Some time
+pub line_said : (line bytes packet : List ℕ) (place time : ℕ) (digits : List ℕ) → drop place line ≡ codes " packet " ++ digits → number_within 0 most_run_ticks (take place line) ≡ Some time
     → decode_of digits ≡ Ok bytes → packet_of bytes ≡ Some packet → said line ≡ Ok (event_at time (Packet packet))
 line_said line bytes packet place time digits rest number decoded is =
-    let front = number_plain time (take place line) (within_is 0 most_ticks time (take place line) number (number_of (take place line)) refl) in
+    let front = number_plain time (take place line) (within_is 0 most_run_ticks time (take place line) number (number_of (take place line)) refl) in
     let back = hex_word digits bytes packet decoded is in
     let whole : line ≡ three (take place line) (codes "packet") digits = sym (take-append-drop place line) ∙ ap (λ x. take place line ++ x) rest in
     let words : line_words line ≡ Some (take place line ∷ codes "packet" ∷ digits ∷ []) =

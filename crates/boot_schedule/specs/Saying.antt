@@ -2,7 +2,7 @@
 use Rattle.std.specs.Prelude.{ℕ, ◌-◌, List, Result, Ok}
 use Rattle.std.specs.Option.{ok_or, option_and_then}
 use Rattle.std.specs.Result.{result_ok}
-use Rattle.aegis_limits.specs.Limits.{most_ticks}
+use Rattle.aegis_limits.specs.Limits.{most_run_ticks}
 use Rattle.hex.specs.Hex.{decode_of}
 use Rattle.line_text.specs.Number.{number_within}
 use Rattle.line_text.specs.Outcome.{◌>>=◌}
@@ -32,18 +32,18 @@ event_at time what = record { time = time; what = what }
 -- what the words of each form say, the time first
 abbrev pub words_said : EventWords → Result EventValue ScheduleWhy
 words_said (PacketWords time word) = do
-  t ← in_range most_ticks time
+  t ← in_range most_run_ticks time
   bytes ← bytes_said word
   Ok (event_at t (Packet bytes))
 words_said (LineWords time number) = do
-  t ← in_range most_ticks time
+  t ← in_range most_run_ticks time
   n ← in_range (lines - 1) number
   Ok (event_at t (Line n))
 words_said (RevokeWords time env count grace) = do
-  t ← in_range most_ticks time
+  t ← in_range most_run_ticks time
   e ← in_range last_environment env
   pages ← in_range most_asked count
-  ticks ← in_range most_ticks grace
+  ticks ← in_range most_run_ticks grace
   Ok (event_at t (Revoke e pages ticks))
 
 -- the event that a line says

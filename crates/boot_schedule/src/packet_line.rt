@@ -5,7 +5,7 @@ ghost use Rattle.boot_schedule.specs.Pieces.{piece_said};
 
 use crate::digits::decoded;
 use crate::pieces::before_line_feed;
-use aegis_limits::MOST_TICKS;
+use aegis_limits::MOST_RUN_TICKS;
 use external_event::{Event, Occurrence, PacketBytes};
 use line_text::number_within;
 use std::alloc::Global;
@@ -22,7 +22,7 @@ pub(crate) fn packet_said(alloc: Global, piece: &[u8]) -> Option<Event>
     let line = before_line_feed(piece)?;
     let (time, rest) = line.split_at(first_space(line)?);
     let digits = rest.strip_prefix(BETWEEN)?;
-    let time = number_within(time, 0, MOST_TICKS)?;
+    let time = number_within(time, 0, MOST_RUN_TICKS)?;
     let packet = PacketBytes::from_bytes(decoded(alloc, digits)?)?;
     Some(Event {
         time,

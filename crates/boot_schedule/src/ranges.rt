@@ -6,7 +6,7 @@ ghost use Rattle.boot_schedule.specs.Saying.{bytes_said, in_range, words_said};
 
 use crate::fault::ScheduleWhy;
 use crate::statement::Parts;
-use aegis_limits::MOST_TICKS;
+use aegis_limits::MOST_RUN_TICKS;
 use external_event::{Event, LAST_ENVIRONMENT, LINES, MOST_ASKED, Occurrence, PacketBytes};
 use hex::FromHexError;
 use line_text::{Failure, Line, TextFailure, number_within};
@@ -25,13 +25,13 @@ pub(crate) fn words_said(
 {
     match parts {
         Parts::Packet { time, bytes } => {
-            let time = in_range(line, time, MOST_TICKS)?;
+            let time = in_range(line, time, MOST_RUN_TICKS)?;
             let packet = bytes_said(alloc, line, bytes)?;
             let what = Occurrence::Packet(packet);
             Ok(Event { time, what })
         }
         Parts::Line { time, number } => {
-            let time = in_range(line, time, MOST_TICKS)?;
+            let time = in_range(line, time, MOST_RUN_TICKS)?;
             let number = in_range(line, number, LAST_LINE)?;
             let what = Occurrence::Line(number as u8);
             Ok(Event { time, what })
@@ -42,10 +42,10 @@ pub(crate) fn words_said(
             count,
             grace,
         } => {
-            let time = in_range(line, time, MOST_TICKS)?;
+            let time = in_range(line, time, MOST_RUN_TICKS)?;
             let env = in_range(line, env, u32::from(LAST_ENVIRONMENT))? as u8;
             let count = in_range(line, count, MOST_ASKED)?;
-            let grace = in_range(line, grace, MOST_TICKS)?;
+            let grace = in_range(line, grace, MOST_RUN_TICKS)?;
             let what = Occurrence::Revoke { env, count, grace };
             Ok(Event { time, what })
         }

@@ -25,7 +25,7 @@ pub enum Occurrence {
         env: u8,
         /// How many, at most `MOST_ASKED`.
         count: u32,
-        /// The ticks until the deadline, at most `MOST_TICKS`.
+        /// The ticks until the deadline, at most `MOST_RUN_TICKS`.
         grace: u32,
     },
 }
@@ -33,7 +33,7 @@ pub enum Occurrence {
 /// Something that happens at a time. Its limits hold of every value of this type.
 #[derive(Drop)]
 pub struct Event {
-    /// The tick at whose beginning it happens, at most `MOST_TICKS`.
+    /// The tick at whose beginning it happens, at most `MOST_RUN_TICKS`.
     pub time: u32,
     /// What happens.
     pub what: Occurrence,

@@ -1,6 +1,6 @@
 -- How far a run has come, of which what one environment is given is told.
 use Rattle.std.specs.Prelude.{◌≡◌, ◌≤◌, ◌<◌, ◌⊎◌, ℕ, List, [], ◌++◌, drop, replicate, Bool, true, false, Option, Some, None}
-use Rattle.aegis_limits.specs.Limits.{most_ticks}
+use Rattle.aegis_limits.specs.Limits.{most_run_ticks}
 use Rattle.world_model.specs.Book.{is_idle_book}
 use Rattle.world_model.specs.Item.{Item}
 use Rattle.run_model.specs.Run.{System, feed, world_after}
@@ -48,13 +48,13 @@ IsFirst items (Some first) = BeginsWith items (shown first.0) first.1
 
 -- A run can go no further: it has had as many ticks as a run may have, or its board is idle.
 abbrev pub IsOver : Progress → Type 0
-IsOver p = (p.ticks ≡ most_ticks) ⊎ (is_idle_book (world_after p.system p.ticks).book ≡ true)
+IsOver p = (p.ticks ≡ most_run_ticks) ⊎ (is_idle_book (world_after p.system p.ticks).book ≡ true)
 
 -- A run went on by a tick or more, and no slice of the environment ended in them but in the last.
 pub record WentOn (before after : Progress) : Type 0 where
   pub same : after ≡ record before { ticks = after.ticks }
   pub later : before.ticks < after.ticks
-  pub within : after.ticks ≤ most_ticks
+  pub within : after.ticks ≤ most_run_ticks
   pub unended : (t : ℕ) → before.ticks < t → t < after.ticks → slices before.system before.env t ≡ ended before
 
 -- it did so, or it couldn't and nothing changed

@@ -48,7 +48,7 @@ pub trait ToldRun {
         ensures whole { IsWhole self.new };
 
     /// Goes on by a tick, or by several in which no slice of the environment ends but in the last one, and tells its items
-    /// in them. False where the run is over, with `MOST_TICKS` made or with an idle board; nothing changes then. Where
+    /// in them. False where the run is over, with `MOST_RUN_TICKS` made or with an idle board; nothing changes then. Where
     /// memory is wanting the run is given up.
     fn pass(&mut self) -> Result<bool, OutOfMemory>
         requires { IsWhole self.old }

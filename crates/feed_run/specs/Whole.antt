@@ -1,6 +1,6 @@
 -- How far a run has come that is told, and what holds between its ticks.
 use Rattle.std.specs.Prelude.{◌≡◌, ◌≤◌, ◌<◌, ◌+◌, ◌-◌, ℕ, List, [], drop, length, map, Bool}
-use Rattle.aegis_limits.specs.Limits.{most_ticks}
+use Rattle.aegis_limits.specs.Limits.{most_run_ticks}
 use Rattle.world_model.specs.Item.{Item}
 use Rattle.run_model.specs.Run.{feed}
 use Rattle.run_model.specs.Slices.{ends_in, slices}
@@ -19,14 +19,14 @@ pub record AreUnread (items : List Item) (log : List ItemSeen) : Type 0 where
 -- A run made one tick, in which a slice of the environment ended, or not.
 pub record WentATick (before after : Progress) (has_ended : Bool) : Type 0 where
   pub same : after ≡ record before { ticks = before.ticks + 1 }
-  pub within : before.ticks < most_ticks
+  pub within : before.ticks < most_run_ticks
   pub ends : has_ended ≡ ends_in before.system before.env before.ticks
 
 -- It made ticks, or none, in which no slice of the environment ended.
 pub record WentPlain (before after : Progress) : Type 0 where
   pub same : after ≡ record before { ticks = after.ticks }
   pub later : before.ticks ≤ after.ticks
-  pub within : after.ticks ≤ most_ticks
+  pub within : after.ticks ≤ most_run_ticks
   pub unended : (t : ℕ) → before.ticks ≤ t → t ≤ after.ticks → slices before.system before.env t ≡ ended before
 
 -- how far a run has come, by its own parts
@@ -38,9 +38,10 @@ progress_of r = record {
   read = length (feed (system_of r.course) r.watched r.course.board.time) - length r.log;
 }
 
--- A run between its ticks: it is on its course, the last items aren't read yet, and so many slices have ended.
+-- A run between its ticks: it is on its course, the last items aren't read yet, and that many slices have ended.
 pub record IsWholeRun (r : BoardRun) : Type 0 where
   pub on : IsOn r.course
+  pub within : r.course.board.time ≤ most_run_ticks
   pub unread : AreUnread (feed (system_of r.course) r.watched r.course.board.time) r.log
   pub empty : r.tick ≡ []
   pub slices : r.ended ≡ slices (system_of r.course) r.watched r.course.board.time

@@ -5,7 +5,7 @@ ghost use Rattle.world_model.specs.Event.{schedule_of};
 ghost use Rattle.feed_log.specs.Progress.{at_boot};
 
 use aegis_calls::Board;
-use aegis_limits::{MOST_TICKS, OutOfMemory};
+use aegis_limits::{MOST_RUN_TICKS, OutOfMemory};
 use aegis_tick::Course;
 use boot_image::Image;
 use external_event::Event;
@@ -98,7 +98,7 @@ impl ToldRun for BoardRun<'_, '_, '_> {
 
     fn pass(&mut self) -> Result<bool, OutOfMemory> {
         let board = &self.course.board;
-        if board.idle() || board.time() == MOST_TICKS {
+        if board.idle() || board.time() == MOST_RUN_TICKS {
             return Ok(false);
         }
         self.drop_read();

@@ -1,13 +1,13 @@
 //! The ticks of a run that is told.
 ghost use Rattle.std.specs.Prelude.{◌≡◌, ◌<◌, ◌||◌, ◌&&◌, not, if◌then◌else◌, IfOk, OnOk, false};
-ghost use Rattle.aegis_limits.specs.Limits.{most_ticks};
+ghost use Rattle.aegis_limits.specs.Limits.{most_run_ticks};
 ghost use Rattle.world_model.specs.Book.{is_idle_book, is_runner};
 ghost use Rattle.board_model.specs.Showing.{world_of};
 
 use crate::phases::tell_tick;
 use crate::reach::is_out_of_reach;
 use crate::run::BoardRun;
-use aegis_limits::{MOST_TICKS, OutOfMemory};
+use aegis_limits::{MOST_RUN_TICKS, OutOfMemory};
 use page_laws::law_through;
 use run_model::law_time;
 use tlb_course::law_further;
@@ -41,7 +41,7 @@ impl BoardRun<'_, '_, '_> {
     pub(crate) fn make_tick(&mut self) -> Result<bool, OutOfMemory>
         requires whole { IsWholeRun self.old }
         requires busy { is_idle_book (world_of self.old.course.board).book ≡ false }
-        requires time { self.old.course.board.time < most_ticks }
+        requires time { self.old.course.board.time < most_run_ticks }
         ensures went { IfOk result (WentATick (progress_of self.old) (progress_of self.new)) }
         ensures whole { OnOk result (IsWholeRun self.new) }
     {
@@ -73,7 +73,7 @@ impl BoardRun<'_, '_, '_> {
         if !is_own && !is_out_of_reach(board, runner, self.watched) {
             return Ok(());
         }
-        let most = MOST_TICKS - board.time();
+        let most = MOST_RUN_TICKS - board.time();
         let steps = self.course.glide(most);
         if is_own {
             self.log.push_steps(steps)?;

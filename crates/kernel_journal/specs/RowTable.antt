@@ -3,7 +3,7 @@ use Rattle.std.specs.Prelude.{◌≡◌, ℕ, ◌+◌, ◌-◌, ◌^◌, ◌≤�
 use Rattle.std.specs.List.{find, list_all, zip}
 use Rattle.std.specs.Option.{ok_or, option_map}
 use Rattle.std.specs.Str.{bytes_eq}
-use Rattle.aegis_limits.specs.Limits.{excess_limit, most_environments, most_slots, most_ticks}
+use Rattle.aegis_limits.specs.Limits.{excess_limit, most_environments, most_slots, most_run_ticks}
 use Rattle.kernel_journal.specs.declared.row.Row.{Row}
 use Rattle.kernel_journal.specs.declared.row.Row.TheVariants as row
 use Rattle.kernel_journal.specs.declared.table.NumberKind.{NumberKind}
@@ -47,7 +47,7 @@ kinds_of name.Unclaimed = Time ∷ Number ∷ []
 
 -- the highest number of a kind
 abbrev pub most_of : NumberKind → ℕ
-most_of Time = most_ticks
+most_of Time = most_run_ticks
 most_of Slot = most_slots - 1
 most_of Env = most_environments - 1
 most_of EnvOrNone = most_environments - 1

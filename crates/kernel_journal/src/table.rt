@@ -5,7 +5,7 @@ ghost use Rattle.std.specs.Str.{bytes_eq};
 ghost use Rattle.kernel_journal.specs.RowTable.{kinds_of, may_be_none, most_of, name_in, text_of, time_of};
 
 use crate::row::Row;
-use aegis_limits::{EXCESS_LIMIT, MOST_ENVIRONMENTS, MOST_SLOTS, MOST_TICKS};
+use aegis_limits::{EXCESS_LIMIT, MOST_ENVIRONMENTS, MOST_RUN_TICKS, MOST_SLOTS};
 
 /// Which row it is: a name for each form that a `Row` has.
 #[derive(Clone, Copy)]
@@ -113,7 +113,7 @@ impl NumberKind {
         ensures { result ≡ most_of self }
     {
         match self {
-            NumberKind::Time => u64::from(MOST_TICKS),
+            NumberKind::Time => u64::from(MOST_RUN_TICKS),
             NumberKind::Slot => MOST_SLOTS as u64 - 1,
             NumberKind::Env | NumberKind::EnvOrNone => MOST_ENVIRONMENTS as u64 - 1,
             NumberKind::Excess => u64::from(EXCESS_LIMIT) + 1,

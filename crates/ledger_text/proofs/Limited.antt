@@ -8,7 +8,7 @@ use Rattle.std.specs.Str.{bytes_eq}
 use Rattle.std.specs.Str.Parse.{digits_value}
 use Rattle.std.proofs.lemmas.Bool.{leb-true, ltb-true}
 use Rattle.std.proofs.lemmas.List.Elements.{All-append}
-use Rattle.aegis_limits.specs.Limits.{most_ticks}
+use Rattle.aegis_limits.specs.Limits.{most_run_ticks}
 use Rattle.line_text.specs.Failing.{fault_at, in_line}
 use Rattle.line_text.specs.Lines.{LineValue, lines_of}
 use Rattle.line_text.specs.Outcome.{◌>>=◌}
@@ -76,7 +76,7 @@ IsEntryWithin (entry.Sum sum) = IsSumWithin sum
 end_limited : (idle : Bool) (time : List ℕ) → IfOk (end_said idle time) IsEntryWithin
 end_limited idle time =
     test_limited IsEntryWithin (list_all is_numeral (time ∷ [])) _ Syntax
-    (bind_limited IsTime IsEntryWithin (time_in time) _ (number_limited most_ticks time) (λ t first. first))
+    (bind_limited IsTime IsEntryWithin (time_in time) _ (number_limited most_run_ticks time) (λ t first. first))
 
 end_form_limited : (words : List (List ℕ)) → IfOk (end_form words) IsEntryWithin
 end_form_limited [] = tt

@@ -1,7 +1,7 @@
 -- What the words of a ledger's row say.
 use Rattle.std.specs.Prelude.{ℕ, ◌+◌, Bool, List, [], ◌∷◌, map, Option, Some, None, unwrap_or, Result, Ok, Err, ◌||◌, if◌then◌else◌}
 use Rattle.std.specs.List.{list_all}
-use Rattle.aegis_limits.specs.Limits.{most_ticks}
+use Rattle.aegis_limits.specs.Limits.{most_run_ticks}
 use Rattle.line_text.specs.Number.{numeral_of}
 use Rattle.kernel_journal.specs.declared.reading.RowFault.{RowFault}
 use Rattle.kernel_journal.specs.declared.reading.RowFault.TheVariants as fault
@@ -13,7 +13,7 @@ use Rattle.ledger_text.specs.Limits.{last_environment, most_number}
 use Rattle.ledger_text.specs.Words.{is_dash, is_numeral, number_in}
 
 abbrev pub time_in : List ℕ → Result ℕ LedgerWhy
-time_in word = number_in most_ticks word
+time_in word = number_in most_run_ticks word
 
 abbrev pub env_in : List ℕ → Result ℕ LedgerWhy
 env_in word = number_in last_environment word

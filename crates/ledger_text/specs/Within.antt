@@ -1,6 +1,6 @@
 -- Ledgers and plans whose numbers are within their limits.
 use Rattle.std.specs.Prelude.{◌≡◌, ℕ, ◌≤◌, List, All, Ok, slice_index}
-use Rattle.aegis_limits.specs.Limits.{most_ticks}
+use Rattle.aegis_limits.specs.Limits.{most_run_ticks}
 use Rattle.kernel_journal.specs.declared.row.Row.{Row}
 use Rattle.kernel_journal.specs.RowTable.{IsRowWithin}
 use Rattle.ledger_text.specs.LedgerText.{LedgerValue, ledger_read}
@@ -8,7 +8,7 @@ use Rattle.ledger_text.specs.Limits.{last_environment, most_share}
 use Rattle.ledger_text.specs.PlanText.{PlanValue, plan_read}
 
 abbrev pub IsTime : ℕ → Type 0
-IsTime t = t ≤ most_ticks
+IsTime t = t ≤ most_run_ticks
 
 abbrev pub IsEnv : ℕ → Type 0
 IsEnv e = e ≤ last_environment

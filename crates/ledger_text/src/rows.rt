@@ -8,7 +8,7 @@ ghost use Rattle.ledger_text.specs.Words.{spaced_words};
 
 use crate::fault::LedgerWhy;
 use crate::words::{MOST_WORDS, few_words, is_dash, is_numeral, number_in};
-use aegis_limits::{MOST_ENVIRONMENTS, MOST_TICKS};
+use aegis_limits::{MOST_ENVIRONMENTS, MOST_RUN_TICKS};
 use arrayvec::ArrayVec;
 use kernel_journal::{Row, RowFault};
 use line_text::numeral;
@@ -88,9 +88,9 @@ fn number_said(word: &[u8]) -> Option<u64>
 /// A time, in ticks.
 pub(crate) fn time_in(word: &[u8]) -> Result<u32, LedgerWhy>
     ensures value { result ≡ time_in word.now }
-    ensures within { IfOk result (λ n. n ≤ MOST_TICKS) }
+    ensures within { IfOk result (λ n. n ≤ MOST_RUN_TICKS) }
 {
-    number_in(word, MOST_TICKS)
+    number_in(word, MOST_RUN_TICKS)
 }
 
 /// An environment's number.

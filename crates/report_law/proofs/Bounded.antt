@@ -4,11 +4,11 @@ use Rattle.std.specs.Prelude.{◌==◌, filter, min, nat_lt, if◌then◌else◌
 use Rattle.std.specs.List.{AllByRecursion}
 use Rattle.std.specs.Option.{option_map}
 use Rattle.std.proofs.lemmas.Bool.{and_parts, cond_both, ltb-true}
-use Rattle.aegis_limits.specs.Limits.{excess_limit, most_environments, most_pages, most_quantum, most_slots, most_ticks}
+use Rattle.aegis_limits.specs.Limits.{excess_limit, most_environments, most_pages, most_quantum, most_slots, most_run_ticks}
 use Rattle.kernel_journal.specs.declared.row.Row.{Row}
 use Rattle.revocation_book.specs.declared.revocation.Pending.{Pending}
 use Rattle.revocation_book.specs.Pending.{asked, most_outstanding, outstanding_in}
-use Rattle.world_model.specs.declared.slot.Hold.{Hold}
+use Rattle.world_model.specs.declared.hold.Hold.{Hold}
 use Rattle.world_model.specs.declared.slot.Runner.{Runner}
 use Rattle.world_model.specs.Book.{Book, hold_without, own_hold}
 use Rattle.world_model.specs.Event.{asks, revokes}
@@ -61,7 +61,7 @@ ArePages count pages = AllByRecursion (λ (page : ℕ). page < count) pages
 pub record IsHeld (t n : ℕ) (c : Core) : Type 0 where
   pub few : n ≤ most_environments
   pub time : c.time ≤ t
-  pub soon : t ≤ most_ticks
+  pub soon : t ≤ most_run_ticks
   pub pages : c.page_count ≤ most_pages
   pub quantum : c.quantum ≤ most_quantum
   pub slot_count : c.slot_count ≤ most_slots

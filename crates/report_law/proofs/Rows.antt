@@ -7,7 +7,7 @@ use Rattle.std.specs.Option.{ok_or}
 use Rattle.std.specs.Str.{bytes_eq}
 use Rattle.std.proofs.lemmas.Bool.{and_from, and_parts, cond-false, cond-true, eqb-true, leb-true, or_right}
 use Rattle.std.proofs.lemmas.Slice.Eq.{bytes_eq-Decides}
-use Rattle.aegis_limits.specs.Limits.{most_ticks}
+use Rattle.aegis_limits.specs.Limits.{most_run_ticks}
 use Rattle.kernel_journal.specs.declared.reading.RowFault.TheVariants.{Form, Range}
 use Rattle.kernel_journal.specs.declared.row.Row.{Row}
 use Rattle.kernel_journal.specs.declared.table.NumberKind.{NumberKind}
@@ -38,7 +38,7 @@ IsSmall r = IsTime (time_of r) → IsRowWithin r
 
 -- numbers within the limits
 pub time_is : (t : ℕ) → IsTime t → time_in (dec_text t) ≡ Ok t
-time_is t within = number_read most_ticks t within (omega (arith, within))
+time_is t within = number_read most_run_ticks t within (omega (arith, within))
 
 pub env_is : (e : ℕ) → IsEnv e → env_in (dec_text e) ≡ Ok e
 env_is e within = number_read last_environment e within (omega (arith, within))

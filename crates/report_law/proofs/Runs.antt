@@ -3,7 +3,7 @@ use Rattle.std.proofs.Common.{arith, refl, sym, ◌∙◌, ap, subst, ◌≡◌,
 use Rattle.std.specs.Prelude.{◌==◌, count_by}
 use Rattle.std.specs.List.{AllByRecursion}
 use Rattle.std.proofs.lemmas.Bool.{and_from, eq-eqb}
-use Rattle.aegis_limits.specs.Limits.{most_ticks}
+use Rattle.aegis_limits.specs.Limits.{most_run_ticks}
 use Rattle.boot_image.specs.Accepted.{IsAccepted}
 use Rattle.kernel_journal.specs.declared.row.Row.{Row}
 use Rattle.world_model.specs.Table.{listed}
@@ -25,7 +25,7 @@ use Rattle.report_law.proofs.Ticks.{count_is, run_bounded}
 use Rattle.report_law.proofs.Whole.{IsShown, report_read, rows_values, sums_right}
 
 -- times and other numbers together
-rows_small : (most : ℕ) (rows : List Row) → most ≤ most_ticks → AllByRecursion (λ (r : Row). time_of r ≤ most) rows → AllSmall rows → AreWithin rows
+rows_small : (most : ℕ) (rows : List Row) → most ≤ most_run_ticks → AllByRecursion (λ (r : Row). time_of r ≤ most) rows → AllSmall rows → AreWithin rows
 rows_small most [] soon times small = tt
 rows_small most (r ∷ rows) soon (time, times) (here, small) = (here (omega (arith, time, soon)), rows_small most rows soon times small)
 
@@ -37,7 +37,7 @@ begun s end e c = by_runner s.runner (c.runs e)
     by_runner (Some who) few = few
 
 -- no count is large
-few_of : (rows : List Row) (end e : ℕ) → end ≤ most_ticks → IsCounted end (state_after rows)
+few_of : (rows : List Row) (end e : ℕ) → end ≤ most_run_ticks → IsCounted end (state_after rows)
     → (count_by (is_run_of e) rows ≤ most_number) × (count_by (is_pay_of e) rows ≤ most_number) × (count_by (is_over_of e) rows ≤ most_number)
 few_of rows end e soon c = (
   omega (arith, soon, c.within, begun (state_after rows) end e c, runs_told e first_state rows),
@@ -57,11 +57,11 @@ right_sum rows e =
     and_from (e == e) ((runs == s.runs e) && ((pays == s.pays e) && (overs == s.overs e))) (eq-eqb e e refl)
     (and_from (runs == s.runs e) ((pays == s.pays e) && (overs == s.overs e)) run_test (and_from (pays == s.pays e) (overs == s.overs e) pay_test over_test))
 
-shown : GrantedMay → IsFoldOfFeed → FeedIsLicensed → RowsFit → (system : System) (limit : ℕ) → IsAccepted system.image → AreEventsWithin system.schedule → limit ≤ most_ticks → IsShown (world_after system limit)
+shown : GrantedMay → IsFoldOfFeed → FeedIsLicensed → RowsFit → (system : System) (limit : ℕ) → IsAccepted system.image → AreEventsWithin system.schedule → limit ≤ most_run_ticks → IsShown (world_after system limit)
 shown granted fold licensed fit system limit accepted events soon =
     let w = world_after system limit in
     let bounded = run_bounded granted system limit accepted events soon in
-    let time : w.book.time ≤ most_ticks = omega (arith, bounded.held.time, soon) in
+    let time : w.book.time ≤ most_run_ticks = omega (arith, bounded.held.time, soon) in
     let counted = rows_counted system.image.quantum w.book.time w.rows (omega (arith, accepted.quantum_least)) (fit system limit accepted) in
     record {
       time = time;

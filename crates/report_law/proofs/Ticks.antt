@@ -5,7 +5,7 @@ use Rattle.std.specs.List.{AllByRecursion, list_all}
 use Rattle.std.proofs.lemmas.Bool.{and_parts, cond_both, leb-true}
 use Rattle.aegis_limits.specs.declared.version.Version.{Version}
 use Rattle.aegis_limits.specs.declared.version.Version.TheVariants.{One, Two}
-use Rattle.aegis_limits.specs.Limits.{most_environments, most_pages, most_ticks}
+use Rattle.aegis_limits.specs.Limits.{most_environments, most_pages, most_run_ticks}
 use Rattle.aegis_limits.specs.VersionLimits.{most_environments_of, most_pages_of}
 use Rattle.boot_image.specs.Accepted.{IsAccepted, IsOwnerBelow}
 use Rattle.boot_image.specs.ImageValue.{ImageValue, ProgramValue}
@@ -17,7 +17,7 @@ use Rattle.filter_tree.specs.ClaimBook.{ClaimValue}
 use Rattle.revocation_book.specs.declared.revocation.Taking.{Taking}
 use Rattle.revocation_book.specs.Pending.{is_due, outstanding_in}
 use Rattle.revocation_book.specs.Takings.{Books, is_victim, paired, takings_below, takings_of, victims, victims_below}
-use Rattle.world_model.specs.declared.slot.Hold.{Hold}
+use Rattle.world_model.specs.declared.hold.Hold.{Hold}
 use Rattle.world_model.specs.Book.{Book, is_idle_book}
 use Rattle.world_model.specs.ClaimCalls.{claim_of}
 use Rattle.world_model.specs.Deadlines.{settles, takes}
@@ -51,8 +51,8 @@ happen_bounded t w (outside.Packet packet) held is =
     packet_bounded t w packet (claim_of w.book packet) held (omega (arith, short))
 happen_bounded t w (outside.Line line) held is = signal_bounded t w line (w.book.lines line) held
 happen_bounded t w (outside.Revoke env count grace) held is =
-    let rest = (and_parts (nat_le env last_environment) (nat_le count most_asked && nat_le grace most_ticks) is).1 in
-    let soon = leb-true grace most_ticks (and_parts (nat_le count most_asked) (nat_le grace most_ticks) rest).1 in
+    let rest = (and_parts (nat_le env last_environment) (nat_le count most_asked && nat_le grace most_run_ticks) is).1 in
+    let soon = leb-true grace most_run_ticks (and_parts (nat_le count most_asked) (nat_le grace most_run_ticks) rest).1 in
     revokes_bounded t w env count (w.book.time + grace) held (omega (arith, held.time, held.soon, soon))
 
 happened : (t : ℕ) (happens : List Occurrence) (w : World) → list_all is_occurrence happens ≡ true → IsBounded t w → IsBounded t (run_phases w (map happen happens))
@@ -112,7 +112,7 @@ taking_bounded t w x held small = record {
 abbrev behind : List (World → Reply)
 behind = settles ∷ turn ∷ step ∷ timer ∷ []
 
-rest_bounded : GrantedMay → (t : ℕ) (w : World) → t + 1 ≤ most_ticks → IsBounded t w → IsBounded (t + 1) (run_phases w behind)
+rest_bounded : GrantedMay → (t : ℕ) (w : World) → t + 1 ≤ most_run_ticks → IsBounded t w → IsBounded (t + 1) (run_phases w behind)
 rest_bounded granted t w soon bounded =
     let s = after w (settles w) in
     let settled = after_bounded t w (settles w) bounded (record { held = bounded.held; rows = tt }) in
@@ -123,12 +123,12 @@ rest_bounded granted t w soon bounded =
     let timed = timer_bounded t v soon stepped.held in
     record { held = timed.held; rows = all_append IsSmall v.rows (timer v).rows stepped.rows timed.rows }
 
-served : GrantedMay → (t : ℕ) (xs : List Taking) (w : World) → t + 1 ≤ most_ticks → AllByRecursion IsTakingSmall xs → IsBounded t w → IsBounded (t + 1) (run_phases w (tick_phases xs))
+served : GrantedMay → (t : ℕ) (xs : List Taking) (w : World) → t + 1 ≤ most_run_ticks → AllByRecursion IsTakingSmall xs → IsBounded t w → IsBounded (t + 1) (run_phases w (tick_phases xs))
 served granted t [] w soon all bounded = rest_bounded granted t w soon bounded
 served granted t (x ∷ xs) w soon (here, all) bounded =
     served granted t xs (after w (takes x w)) soon all (after_bounded t w (takes x w) bounded (taking_bounded t w x bounded.held here))
 
-later : (t u : ℕ) (w : World) → t ≤ u → u ≤ most_ticks → IsBounded t w → IsBounded u w
+later : (t u : ℕ) (w : World) → t ≤ u → u ≤ most_run_ticks → IsBounded t w → IsBounded u w
 later t u w less soon bounded =
     let held = bounded.held in
     record {
@@ -148,7 +148,7 @@ later t u w less soon bounded =
       rows = bounded.rows;
     }
 
-next_bounded : GrantedMay → (schedule : Schedule) → AreEventsWithin schedule → (t : ℕ) (w : World) → t + 1 ≤ most_ticks → IsBounded t w → IsBounded (t + 1) (next_world schedule w)
+next_bounded : GrantedMay → (schedule : Schedule) → AreEventsWithin schedule → (t : ℕ) (w : World) → t + 1 ≤ most_run_ticks → IsBounded t w → IsBounded (t + 1) (next_world schedule w)
 next_bounded granted schedule all t w soon bounded =
     let happens = happens_in schedule w in
     let xs = takings_next schedule w in
@@ -158,7 +158,7 @@ next_bounded granted schedule all t w soon bounded =
     (λ idle. later t (t + 1) w (omega arith) soon bounded)
     (λ busy. subst (IsBounded (t + 1)) (sym (run_append w (map happen happens) (tick_phases xs))) (served granted t xs v soon (takings_small t v v.count early.held (omega arith)) early))
 
-ticks_bounded : GrantedMay → (schedule : Schedule) → AreEventsWithin schedule → (w : World) → IsBounded 0 w → (t : ℕ) → t ≤ most_ticks → IsBounded t (world_after_ticks schedule w t)
+ticks_bounded : GrantedMay → (schedule : Schedule) → AreEventsWithin schedule → (w : World) → IsBounded 0 w → (t : ℕ) → t ≤ most_run_ticks → IsBounded t (world_after_ticks schedule w t)
 ticks_bounded granted schedule all w bounded zero soon = bounded
 ticks_bounded granted schedule all w bounded (suc t) soon =
     let before = ticks_bounded granted schedule all w bounded t (omega (arith, soon)) in
@@ -215,7 +215,7 @@ boot_bounded image accepted = record {
     few : length image.programs ≤ most_environments
     few = programs_few image.version (length image.programs) accepted.programs_most
 
-pub run_bounded : GrantedMay → (system : System) (t : ℕ) → IsAccepted system.image → AreEventsWithin system.schedule → t ≤ most_ticks → IsBounded t (world_after system t)
+pub run_bounded : GrantedMay → (system : System) (t : ℕ) → IsAccepted system.image → AreEventsWithin system.schedule → t ≤ most_run_ticks → IsBounded t (world_after system t)
 run_bounded granted system t accepted all soon = ticks_bounded granted system.schedule all (boot_world system.image) (boot_bounded system.image accepted) t soon
 
 -- environments are as many as the image has

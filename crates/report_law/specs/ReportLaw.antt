@@ -1,7 +1,7 @@
 -- What a run writes is read as the run's ledger.
 use Rattle.std.specs.Prelude.{◌≡◌, ℕ, ◌≤◌, List, [], ◌∷◌, count_by, length, true, None, Ok}
 use Rattle.std.specs.List.{list_all}
-use Rattle.aegis_limits.specs.Limits.{most_ticks}
+use Rattle.aegis_limits.specs.Limits.{most_run_ticks}
 use Rattle.boot_image.specs.Accepted.{IsAccepted}
 use Rattle.external_event.specs.EventValue.{is_occurrence}
 use Rattle.kernel_journal.specs.declared.row.Row.{Row}
@@ -37,12 +37,14 @@ pub record IsRead (system : System) (limit : ℕ) : Type 0 where
   pub ledger : LedgerValue
   pub read : ledger_read (written system limit) ≡ Ok ledger
   pub of_run : IsOfRun system limit ledger
-  pub sums : let w = world_after system limit in values_of ledger.sums ≡ listed (tally_of w.rows) (length system.image.programs)
+  pub sums : let w = world_after system limit in
+      values_of ledger.sums ≡ listed (tally_of w.rows) (length system.image.programs)
 
 -- So it is for every image within its limits, every schedule of events within theirs, and every limit that a run may have.
 abbrev pub ReportsAreRead : Type 0
 ReportsAreRead =
-    (system : System) (limit : ℕ) → IsAccepted system.image → AreEventsWithin system.schedule → limit ≤ most_ticks → IsRead system limit
+    (system : System) (limit : ℕ) → IsAccepted system.image → AreEventsWithin system.schedule → limit ≤ most_run_ticks
+    → IsRead system limit
 
 -- The bytes are read as a ledger which the auditor finds clean with the image's quantum, and which has as many rows as
 -- the run.
@@ -54,4 +56,5 @@ pub record IsFoundClean (system : System) (limit : ℕ) : Type 0 where
 
 abbrev pub ReportsAreClean : Type 0
 ReportsAreClean =
-    (system : System) (limit : ℕ) → IsAccepted system.image → AreEventsWithin system.schedule → limit ≤ most_ticks → IsFoundClean system limit
+    (system : System) (limit : ℕ) → IsAccepted system.image → AreEventsWithin system.schedule → limit ≤ most_run_ticks
+    → IsFoundClean system limit

@@ -3,7 +3,7 @@ use Rattle.std.proofs.Common.{◌≡◌, ◌<◌, ◌≤◌, ◌+◌, ◌-◌, �
 use Rattle.std.specs.Prelude.{slice_get}
 use Rattle.std.proofs.lemmas.Bool.{cases_lt}
 use Rattle.std.proofs.lemmas.List.{length-append, length-drop}
-use Rattle.aegis_limits.specs.Limits.{most_ticks}
+use Rattle.aegis_limits.specs.Limits.{most_run_ticks}
 use Rattle.world_model.specs.Item.{Item}
 use Rattle.run_model.specs.Run.{System, feed}
 use Rattle.run_model.specs.Slices.{IsEndOf}
@@ -45,7 +45,7 @@ places n start index p reads =
     (λ t is j less. place_at p t j (until_end n p t reads.under_way is) less)))
 
 -- a run that has nothing more to come is at the end
-at_end : (n : ℕ) (p : Progress) (t : ℕ) → IsUnderWay n p → IsDone n p → IsEndOf p.system p.env n t → t ≤ most_ticks → t ≡ p.ticks
+at_end : (n : ℕ) (p : Progress) (t : ℕ) → IsUnderWay n p → IsDone n p → IsEndOf p.system p.env n t → t ≤ most_run_ticks → t ≡ p.ticks
 at_end n p t on done is within =
     let later = until_end n p t on is in
     let all : ended p ≡ n = by_done done later in
@@ -56,9 +56,9 @@ at_end n p t on done is within =
   where
     by_done : IsDone n p → p.ticks ≤ t → ended p ≡ n
     by_done (inl all) later = all
-    by_done (inr over) later = sym (over_still most_ticks p over t later within) ∙ is.reached
+    by_done (inr over) later = sym (over_still most_run_ticks p over t later within) ∙ is.reached
 
-front_at : (n : ℕ) (p : Progress) (t : ℕ) → IsUnderWay n p → HasNext n p → IsEndOf p.system p.env n t → t ≤ most_ticks → slice_get (feed p.system p.env t) p.read ≡ front p
+front_at : (n : ℕ) (p : Progress) (t : ℕ) → IsUnderWay n p → HasNext n p → IsEndOf p.system p.env n t → t ≤ most_run_ticks → slice_get (feed p.system p.env t) p.read ≡ front p
 front_at n p t on next is within = by_left (unread p) refl next
   where
     same_place : p.read + 0 ≡ p.read
@@ -73,12 +73,12 @@ front_at n p t on next is within = by_left (unread p) refl next
         ap (λ (u : ℕ). slice_get (feed p.system p.env u) p.read) (at_end n p t on done is within)
         ∙ ap (slice_get (told p)) (sym same_place) ∙ sym (get_drop p.read 0 (told p))
 
-pub fronts : (n : ℕ) (start : Progress) (index : ℕ) (p : Progress) → Reads n start index p → HasNext n p → (t : ℕ) → IsEndOf start.system start.env n t → t ≤ most_ticks
+pub fronts : (n : ℕ) (start : Progress) (index : ℕ) (p : Progress) → Reads n start index p → HasNext n p → (t : ℕ) → IsEndOf start.system start.env n t → t ≤ most_run_ticks
     → slice_get (feed start.system start.env t) index ≡ front p
 fronts n start index p reads next =
-    subst (λ (s : System). (t : ℕ) → IsEndOf s start.env n t → t ≤ most_ticks → slice_get (feed s start.env t) index ≡ front p) reads.system
-    (subst (λ (e : ℕ). (t : ℕ) → IsEndOf p.system e n t → t ≤ most_ticks → slice_get (feed p.system e t) index ≡ front p) reads.env
-    (subst (λ (r : ℕ). (t : ℕ) → IsEndOf p.system p.env n t → t ≤ most_ticks → slice_get (feed p.system p.env t) r ≡ front p) reads.read
+    subst (λ (s : System). (t : ℕ) → IsEndOf s start.env n t → t ≤ most_run_ticks → slice_get (feed s start.env t) index ≡ front p) reads.system
+    (subst (λ (e : ℕ). (t : ℕ) → IsEndOf p.system e n t → t ≤ most_run_ticks → slice_get (feed p.system e t) index ≡ front p) reads.env
+    (subst (λ (r : ℕ). (t : ℕ) → IsEndOf p.system p.env n t → t ≤ most_run_ticks → slice_get (feed p.system p.env t) r ≡ front p) reads.read
     (λ t is within. front_at n p t reads.under_way next is within)))
 
 -- items that were read of both and are the same
@@ -165,13 +165,13 @@ is_difference n left right p q index apart envs = record { first = λ t u ends. 
 -- The answer is Same exactly where there is no difference.
 pub same_where_equal : (ls rs : System) (e n : ℕ) (lines : List ℕ) (d : Option Difference) → IsDifference ls rs e n d → IsSameWhereEqual ls rs e n (settled lines d)
 same_where_equal ls rs e n lines None is t u left right =
-    let first = is_end ls e n most_ticks t left in
-    let second = is_end rs e n most_ticks u right in
+    let first = is_end ls e n most_run_ticks t left in
+    let second = is_end rs e n most_run_ticks u right in
     let ends : AreEnds ls rs e n t u = record { left_end = first.0; left_within = first.1; right_end = second.0; right_within = second.1 } in
     (λ same. is.none t u ends refl, λ equal. refl)
 same_where_equal ls rs e n lines (Some x) is t u left right =
-    let first = is_end ls e n most_ticks t left in
-    let second = is_end rs e n most_ticks u right in
+    let first = is_end ls e n most_run_ticks t left in
+    let second = is_end rs e n most_run_ticks u right in
     let ends : AreEnds ls rs e n t u = record { left_end = first.0; left_within = first.1; right_end = second.0; right_within = second.1 } in (
       λ same. absurd (cc),
       λ equal. let none : Some x ≡ None = is.first t u ends ∙ difference_nowhere (feed ls e t) (feed rs e u) equal in absurd (cc),

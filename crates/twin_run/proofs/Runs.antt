@@ -3,7 +3,7 @@ use Rattle.std.proofs.Common.{◌≡◌, ◌<◌, ◌≤◌, ◌+◌, ◌∙◌,
 use Rattle.std.specs.Prelude.{◌⊎◌, is_some, min, replicate, slice_get}
 use Rattle.std.proofs.lemmas.Bool.{cases_lt}
 use Rattle.std.proofs.lemmas.List.{length-append, length-replicate}
-use Rattle.aegis_limits.specs.Limits.{most_ticks}
+use Rattle.aegis_limits.specs.Limits.{most_run_ticks}
 use Rattle.world_model.specs.Book.{is_idle_book}
 use Rattle.world_model.specs.Item.{Item}
 use Rattle.run_model.specs.Run.{world_after}
@@ -101,15 +101,15 @@ over_count most p present within over = slices_there p.system p.env most present
 -- where its environment isn't there, it comes to no slice
 pub absent_short : (n : ℕ) (p : Progress) → is_there p.system p.env ≡ false → FellShort n p 0
 absent_short n p absent = record {
-  no_end = end_absent p.system p.env n most_ticks absent;
-  count = sym (slices_absent p.system p.env most_ticks absent);
+  no_end = end_absent p.system p.env n most_run_ticks absent;
+  count = sym (slices_absent p.system p.env most_run_ticks absent);
 }
 
 -- a run that is over before slice n falls short of it
 pub over_short : (n : ℕ) (p : Progress) → IsUnderWay n p → is_there p.system p.env ≡ true → ended p < n → IsOver p → FellShort n p (ended p)
 over_short n p on present fewer over = record {
-  no_end = end_none p.system p.env n most_ticks (over_before n most_ticks p on fewer over);
-  count = sym (over_count most_ticks p present on.within over);
+  no_end = end_none p.system p.env n most_run_ticks (over_before n most_run_ticks p on fewer over);
+  count = sym (over_count most_run_ticks p present on.within over);
 }
 
 -- a run that has ended n slices has come to the end of slice n
@@ -120,13 +120,13 @@ end_reached n p q went present enough =
     record {
       went = went;
       there = present;
-      end = end_there q.system q.env n most_ticks q.ticks present is went.under_way.within;
+      end = end_there q.system q.env n most_run_ticks q.ticks present is went.under_way.within;
       is_end = is;
     }
 
 -- what falls short is the same of a run of the same system and environment
 pub short_same : (n : ℕ) (p q : Progress) (k : ℕ) → q.system ≡ p.system → q.env ≡ p.env → FellShort n q k → FellShort n p k
 short_same n p q k systems envs short = record {
-  no_end = ap (λ s. end_in_time s p.env n most_ticks) (sym systems) ∙ ap (λ e. end_in_time q.system e n most_ticks) (sym envs) ∙ short.no_end;
-  count = short.count ∙ ap (λ s. slices_in s q.env most_ticks) systems ∙ ap (λ e. slices_in p.system e most_ticks) envs;
+  no_end = ap (λ s. end_in_time s p.env n most_run_ticks) (sym systems) ∙ ap (λ e. end_in_time q.system e n most_run_ticks) (sym envs) ∙ short.no_end;
+  count = short.count ∙ ap (λ s. slices_in s q.env most_run_ticks) systems ∙ ap (λ e. slices_in p.system e most_run_ticks) envs;
 }

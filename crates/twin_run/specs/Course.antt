@@ -1,6 +1,6 @@
--- How far two runs have come while they are compared.
+-- How far two runs have come while they are compared. For proofs: nobody has to believe it.
 use Rattle.std.specs.Prelude.{◌≡◌, ◌≤◌, ◌<◌, ◌⊎◌, ℕ, List, [], length, true, false, Option, Some, None, option_map, slice_get}
-use Rattle.aegis_limits.specs.Limits.{most_ticks}
+use Rattle.aegis_limits.specs.Limits.{most_run_ticks}
 use Rattle.world_model.specs.Item.{Item}
 use Rattle.run_model.specs.Run.{System, feed}
 use Rattle.run_model.specs.Slices.{IsEndOf, slices}
@@ -19,7 +19,7 @@ Begins e p = p ≡ at_boot p.system e
 
 -- a run in which fewer than n slices of the environment have ended before its last tick
 pub record IsUnderWay (n : ℕ) (p : Progress) : Type 0 where
-  pub within : p.ticks ≤ most_ticks
+  pub within : p.ticks ≤ most_run_ticks
   pub fewer : (t : ℕ) → t < p.ticks → slices p.system p.env t < n
 
 -- how many items an environment is given in so many ticks
@@ -47,9 +47,9 @@ front p = slice_get (unread p) 0
 -- In two systems so many ticks end the slice n of an environment.
 pub record AreEnds (left right : System) (e n t u : ℕ) : Type 0 where
   pub left_end : IsEndOf left e n t
-  pub left_within : t ≤ most_ticks
+  pub left_within : t ≤ most_run_ticks
   pub right_end : IsEndOf right e n u
-  pub right_within : u ≤ most_ticks
+  pub right_within : u ≤ most_run_ticks
 
 -- Up to there so many items of their feeds are the same.
 abbrev pub AreSameBelow : System → System → ℕ → ℕ → ℕ → Type 0
@@ -116,12 +116,12 @@ pub record WentOnTo (n : ℕ) (p q : Progress) : Type 0 where
 pub record CameToEnd (n : ℕ) (p q : Progress) : Type 0 where
   pub went : WentOnTo n p q
   pub there : is_there q.system q.env ≡ true
-  pub end : end_in_time q.system q.env n most_ticks ≡ Some q.ticks
+  pub end : end_in_time q.system q.env n most_run_ticks ≡ Some q.ticks
   pub is_end : IsEndOf q.system q.env n q.ticks
 
 pub record FellShort (n : ℕ) (p : Progress) (slices : ℕ) : Type 0 where
-  pub no_end : end_in_time p.system p.env n most_ticks ≡ None
-  pub count : slices ≡ slices_in p.system p.env most_ticks
+  pub no_end : end_in_time p.system p.env n most_run_ticks ≡ None
+  pub count : slices ≡ slices_in p.system p.env most_run_ticks
 
 abbrev pub EndedSo : ℕ → Progress → Progress → Option ℕ → Type 0
 EndedSo n p q None = CameToEnd n p q

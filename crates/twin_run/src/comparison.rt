@@ -1,6 +1,6 @@
 //! Two runs compared.
 ghost use Rattle.std.specs.Prelude.{◌≡◌, IfOk, OnOk, true};
-ghost use Rattle.aegis_limits.specs.Limits.{most_ticks};
+ghost use Rattle.aegis_limits.specs.Limits.{most_run_ticks};
 ghost use Rattle.run_model.specs.Run.{world_after};
 ghost use Rattle.run_report.specs.Report.{env_text};
 ghost use Rattle.twin_run.specs.Answer.{is_there, twin_answer};
@@ -59,7 +59,7 @@ fn settle<R: ToldRun>(
 }
 
 /// Compares two runs by what an environment is given in them, from its record at boot up to the end of its slice of this
-/// number (`docs/REPORT.md`, "Two runs compared"). Either run is at its begin, and has at most `MOST_TICKS` ticks.
+/// number (`docs/REPORT.md`, "Two runs compared"). Either run is at its begin, and has at most `MOST_RUN_TICKS` ticks.
 pub fn twin<R: ToldRun>(
     alloc: Global,
     left: &mut R,
@@ -71,7 +71,7 @@ pub fn twin<R: ToldRun>(
     requires right { Begins env (R.progress right.old) }
     requires left_whole { R.IsWhole left.old }
     requires right_whole { R.IsWhole right.old }
-    ensures answer { IfOk result (λ answer. answer ≡ twin_answer (R.progress left.old).system (R.progress right.old).system env slices most_ticks) }
+    ensures answer { IfOk result (λ answer. answer ≡ twin_answer (R.progress left.old).system (R.progress right.old).system env slices most_run_ticks) }
     ensures equal { IfOk result (IsSameWhereEqual (R.progress left.old).system (R.progress right.old).system env slices) }
 {
     let difference = first_difference(alloc, left, right, slices)?;

@@ -1,5 +1,5 @@
 use Rattle.std.proofs.Common.{◌≡◌, ◌-◌}
-use Rattle.aegis_limits.specs.Limits.{most_ticks}
+use Rattle.aegis_limits.specs.Limits.{most_run_ticks}
 use Rattle.twin_run.specs.Course.{IsUnderWay}
 use Rattle.twin_run.proofs.course.come_to_item.Given as goal
 
@@ -9,4 +9,4 @@ invariant-loop-run g l =
     × (g.R.ToldRun.progress l.run ≡ record (g.R.ToldRun.progress l.fn.run) { ticks = (g.R.ToldRun.progress l.run).ticks })
 
 abbrev pub decreases-loop-run : goal.decreases-loop-run
-decreases-loop-run g l = most_ticks - (g.R.ToldRun.progress l.run).ticks
+decreases-loop-run g l = most_run_ticks - (g.R.ToldRun.progress l.run).ticks

@@ -1,5 +1,5 @@
 use Rattle.std.proofs.Common.{ℕ, ◌≡◌, ◌<◌, ◌≤◌, ◌+◌, ◌-◌, ap, arith, subst, sym}
-use Rattle.aegis_limits.specs.Limits.{most_ticks}
+use Rattle.aegis_limits.specs.Limits.{most_run_ticks}
 use Rattle.feed_log.specs.Progress.{Progress}
 use Rattle.twin_run.specs.Course.{AreSameBelow, Reads, items_within}
 use Rattle.twin_run.proofs.Fronts.{few_left, reads_more, reads_on, same_more}
@@ -15,8 +15,8 @@ loop-right-smaller g c =
     let count = c.same_next-count.result in
     let reads = reads_on c.args.slices left c.loop-right.index (g.R.ToldRun.progress c.loop-right.left) p c.loop-right.invariant.2 c.in_ok-come_to_item.ensures.came in
     let some : 0 < count = omega (arith, c.if-count-eq0.false) in
-    fewer (items_within left.system left.env most_ticks) c.loop-right.index count c.in_ok-index.index c.in_ok-index.ensures some
-    (few_left c.args.slices left c.loop-right.index count most_ticks p reads reads.under_way.within c.same_next-count.ensures.left_has some)
+    fewer (items_within left.system left.env most_run_ticks) c.loop-right.index count c.in_ok-index.index c.in_ok-index.ensures some
+    (few_left c.args.slices left c.loop-right.index count most_run_ticks p reads reads.under_way.within c.same_next-count.ensures.left_has some)
 
 pub loop-right-preserved : goal.loop-right-preserved
 loop-right-preserved g c =

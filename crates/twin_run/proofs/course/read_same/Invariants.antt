@@ -1,5 +1,5 @@
 use Rattle.std.proofs.Common.{◌-◌}
-use Rattle.aegis_limits.specs.Limits.{most_ticks}
+use Rattle.aegis_limits.specs.Limits.{most_run_ticks}
 use Rattle.twin_run.specs.Course.{AreSameBelow, Reads, items_within}
 use Rattle.twin_run.proofs.course.read_same.Given as goal
 
@@ -12,4 +12,4 @@ invariant-loop-right g l =
 
 abbrev pub decreases-loop-right : goal.decreases-loop-right
 decreases-loop-right g l =
-    let left = g.R.ToldRun.progress l.fn.left in items_within left.system left.env most_ticks - l.index
+    let left = g.R.ToldRun.progress l.fn.left in items_within left.system left.env most_run_ticks - l.index
