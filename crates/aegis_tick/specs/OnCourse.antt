@@ -1,17 +1,19 @@
 -- A run on its course, between two ticks and in the middle of one.
-use Rattle.std.specs.Prelude.{◌≡◌, ◌≤◌, ◌+◌, ◌*◌, false, IfSome, None}
+use Rattle.std.specs.Prelude.{◌≡◌, ◌≤◌, ◌+◌, ◌-◌, ◌*◌, ℕ, false, min, IfSome, None}
 use Rattle.aegis_limits.specs.Limits.{most_ticks}
 use Rattle.world_model.specs.Book.{is_idle_book}
 use Rattle.world_model.specs.Event.{schedule_of}
 use Rattle.run_model.specs.Boot.{boot_world}
-use Rattle.run_model.specs.Run.{System, world_after}
+use Rattle.run_model.specs.Run.{System, happens_in, world_after}
 use Rattle.tlb_course.specs.Course.{cache_after}
 use Rattle.board_model.specs.Shown.{Shown}
 use Rattle.board_model.specs.Showing.{world_of}
+use Rattle.aegis_calls.specs.Cached.{GoesAsFar}
 use Rattle.aegis_calls.specs.Entering.{IsEntering}
 use Rattle.aegis_calls.specs.Rows.{step_rows}
 use Rattle.aegis_tick.specs.declared.course.Course.{Course}
-use Rattle.aegis_tick.specs.Agenda.{AreComing}
+use Rattle.aegis_tick.specs.Agenda.{AreComing, next_time_of}
+use Rattle.aegis_tick.specs.Course.{HappenedInPart}
 use Rattle.aegis_tick.specs.Halves.{MayFinish, mid}
 
 -- what a run goes by
@@ -36,6 +38,16 @@ pub record IsOn (c : Course) : Type 0 where
 -- Its TLB is that of the model.
 abbrev pub IsCached : Course → Type 0
 IsCached c = c.board.tlb ≡ cache_after (system_of c) c.board.time
+
+-- Of the next tick some first events have happened, and nothing else.
+abbrev pub IsStoppedInTick : Course → Course → Type 0
+IsStoppedInTick old new =
+    HappenedInPart (happens_in (system_of old).schedule (world_of old.board)) (world_of old.board) (world_of new.board)
+
+-- Plain ticks went as far as they go before the next event, of at most so many.
+abbrev pub GlidesAsFar : Course → Course → ℕ → ℕ → Type 0
+GlidesAsFar old new most made =
+    GoesAsFar old.board new.board (min most (next_time_of old.agenda - old.board.time)) made
 
 -- A run is in the middle of a tick: what happens in it has happened, and the runner's step is to come.
 pub record IsMidway (c : Course) : Type 0 where

@@ -15,7 +15,7 @@ ghost use Rattle.run_model.specs.Run.{end_of_run, happens_in, world_after};
 ghost use Rattle.tlb_course.specs.Course.{cache_after};
 ghost use Rattle.aegis_tick.specs.Agenda.{AreComing, occurrences};
 ghost use Rattle.aegis_tick.specs.Halves.{second_half};
-ghost use Rattle.aegis_tick.specs.Course.{HappenedInPart, IsCutOff, IsSure};
+ghost use Rattle.aegis_tick.specs.Course.{IsCutOff, IsSure};
 
 use crate::agenda::Agenda;
 use crate::booting::boot;
@@ -61,7 +61,7 @@ pub fn end_of_run(board: &Board, ticks: u32) -> RunEnd
 }
 
 impl<'i, 'b, 'e> Course<'i, 'b, 'e> {
-    ghost use Rattle.aegis_tick.specs.OnCourse.{IsCached, IsMidway, IsOn, system_of};
+    ghost use Rattle.aegis_tick.specs.OnCourse.{GlidesAsFar, IsCached, IsMidway, IsOn, IsStoppedInTick, system_of};
 
     /// The run that an image and a schedule boot (`docs/KERNEL.md`, "Boot"). No tick is made yet, and nobody owes anything.
     pub fn boot(
@@ -112,7 +112,7 @@ impl<'i, 'b, 'e> Course<'i, 'b, 'e> {
         ensures cached { OnOk result (IsCached self.old → IsCached self.new) }
         ensures time { OnOk result (self.new.board.time ≡ self.old.board.time + 1) }
         ensures system { system_of self.new ≡ system_of self.old }
-        ensures part { OnErr result (HappenedInPart (happens_in (system_of self.old).schedule (world_of self.old.board)) (world_of self.old.board) (world_of self.new.board)) }
+        ensures part { OnErr result (IsStoppedInTick self.old self.new) }
         ensures early { OnErr result (IsSameTick self.old.board self.new.board × (self.new.board.tlb ≡ self.old.board.tlb)) }
         ensures fewer { length self.new.agenda ≤ length self.old.agenda }
         ensures sure { IsSure (length self.old.agenda - length self.new.agenda + 1) result self.old.board.ledger.spare self.new.board.ledger.spare }
@@ -125,8 +125,8 @@ impl<'i, 'b, 'e> Course<'i, 'b, 'e> {
         Ok(())
     }
 
-    /// Plain ticks, at most so many: nothing happens in them but steps of the runner's that retire. There may be none. The
-    /// result is how many there were.
+    /// Plain ticks, at most that many: nothing happens in them but steps of the runner's that retire. There may be none. They
+    /// go on up to the next event, unless the runner's next step isn't one. The result is how many there were.
     #[inline(always)]
     pub fn glide(&mut self, most: u32) -> u32
         requires on { IsOn self.old }
@@ -138,6 +138,7 @@ impl<'i, 'b, 'e> Course<'i, 'b, 'e> {
         ensures system { system_of self.new ≡ system_of self.old }
         ensures quiet { IsQuiet (system_of self.old).schedule self.old.board.time (self.old.board.time + result) }
         ensures steady { AreSteady self.old.board (system_of self.old).schedule result }
+        ensures stop { GlidesAsFar self.old self.new most result }
         ensures agenda { self.new.agenda ≡ self.old.agenda }
         ensures ledger { self.new.board.ledger ≡ self.old.board.ledger }
     {
@@ -149,7 +150,8 @@ impl<'i, 'b, 'e> Course<'i, 'b, 'e> {
         stretch.made
     }
 
-    /// The first half of the next tick, up to the runner's step, with what happens in it.
+    /// The first half of the next tick, up to the runner's step, with what happens in it. After a refusal some first events of
+    /// it have happened. Where the rows of its events and of the tick are spare it isn't refused.
     pub fn begin(&mut self) -> Result<(), OutOfMemory>
         requires on { IsOn self.old }
         requires busy { is_idle_book (world_of self.old.board).book ≡ false }
@@ -157,6 +159,8 @@ impl<'i, 'b, 'e> Course<'i, 'b, 'e> {
         ensures midway { OnOk result (IsMidway self.new) }
         ensures time { OnOk result (self.new.board.time ≡ self.old.board.time) }
         ensures system { system_of self.new ≡ system_of self.old }
+        ensures part { OnErr result (IsStoppedInTick self.old self.new) }
+        ensures sure { TICK_ROWS * (length self.old.agenda - length self.new.agenda + 1) ≤ self.old.board.ledger.spare → IsOk result }
     {
         law_agenda();
         self.entry = None;
