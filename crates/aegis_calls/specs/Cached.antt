@@ -1,4 +1,4 @@
--- What the TLB is behind a call, and behind ticks in which nothing happens from outside.
+-- What the TLB is behind a call, and behind ticks in which nothing happens from outside. For proofs: nobody has to believe it.
 use Rattle.std.specs.Prelude.{◌≡◌, ◌<◌, ℕ, ◌+◌, ◌/◌, false, Option, Some, None}
 use Rattle.std.specs.Option.{option_map}
 use Rattle.aegis_limits.specs.Limits.{page_size}

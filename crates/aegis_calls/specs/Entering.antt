@@ -1,4 +1,4 @@
--- A runner that stands where it enters the kernel.
+-- A runner that stands where it enters the kernel. For proofs: nobody has to believe it.
 use Rattle.std.specs.Prelude.{◌≡◌, ◌<◌, ℕ, false, IsSome, Option, Some, None}
 use Rattle.revocation_book.specs.RevocationBook.{is_any_due}
 use Rattle.r3k_machine.specs.declared.entry.Entry.{Entry}

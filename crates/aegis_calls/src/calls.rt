@@ -10,13 +10,7 @@ use crate::board::Board;
 use board_acts::answer;
 use call_verdicts::{decide, deed_of, law_again, law_granted};
 use revocation_book::law_richest;
-use world_model::{Call, Cause, Deed, EXIT, Verdict};
-
-/// The register of a call's number.
-const CALL_NUMBER: u8 = 2;
-
-/// The register of an exit's code.
-const EXIT_CODE: u8 = 4;
+use world_model::{CALL_NUMBER, Call, Cause, Deed, EXIT, FIRST_ARGUMENT, Verdict};
 
 impl Board {
     ghost use Rattle.board_model.specs.Doing.{after_answer, after_runner_call, after_grant, after_decision, with_one_asked};
@@ -48,7 +42,6 @@ impl Board {
         ensures { self.new ≡ after_grant self.old env value deed }
     {
         self.law_sound();
-        let granted = Verdict::Grant(value);
         match deed {
             Deed::Answers => {}
             Deed::Own(own) => self.do_own(env, own),
@@ -75,18 +68,18 @@ impl Board {
             } => self.download(env, claim, address, words),
             Deed::Loads(page) => self.load(env, page),
             Deed::Stops => {
-                self.answer(granted);
+                self.answer(Verdict::Grant(value));
                 return self.stop(env);
             }
             Deed::Gives(target) => {
-                self.answer(granted);
+                self.answer(Verdict::Grant(value));
                 return self.give(env, target as u8);
             }
             Deed::Transfers { target, kind } => {
                 return self.transfer(env, value, target as u8, kind);
             }
         }
-        self.answer(granted);
+        self.answer(Verdict::Grant(value));
     }
 
     /// An environment is asked for a page within two quanta, if nothing is pending for it.
@@ -224,7 +217,7 @@ impl Board {
     {
         let number = self.machine.cpu.reg(CALL_NUMBER);
         if number == EXIT {
-            let code = self.machine.cpu.reg(EXIT_CODE);
+            let code = self.machine.cpu.reg(FIRST_ARGUMENT);
             return self.die(env, Cause::Exit(code));
         }
         self.answer_call(env, Call::named(number));

@@ -6,8 +6,8 @@ ghost use Rattle.world_model.specs.Book.{running};
 ghost use Rattle.aegis_calls.specs.Calls.{MayCall};
 
 use crate::board::Board;
+use aegis_limits::PAGE_BYTES;
 use board_acts::{answer_miss, space_in};
-use guest_memory::PAGE_BYTES;
 use mips_exec::{Exc, ExcCode, Outcome};
 use r3k_machine::{Entry, MachineEnd};
 

@@ -8,10 +8,9 @@ ghost use Rattle.aegis_calls.specs.Entering.{IsEntering, Tells, TellsOfNext};
 ghost use Rattle.aegis_calls.specs.Stretch.{ArePlainTicks, IsStretch, MayStretch, TellsOfSteps, most_plain};
 
 use crate::board::Board;
-use aegis_limits::VPN_END;
+use aegis_limits::{PAGE_BYTES, VPN_END};
 use board_acts::{plain_most, refill, space_in};
 use board_model::law_stretch;
-use guest_memory::PAGE_BYTES;
 use r3k_machine::{Entry, Steps};
 use tlb_course::law_further;
 use tlb_laws::{law_finds, law_misses, law_right_refill};

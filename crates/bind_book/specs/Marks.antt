@@ -23,7 +23,8 @@ marked_too Anywhere place = Anywhere
 
 -- rows that lead to the page stand where this mark says
 abbrev pub IsMarked : Mark → ℕ → List (Option Binding) → Type 0
-IsMarked mark page rows = (place : ℕ) → is_of_page page (slice_index_or rows place None) ≡ true → may_stand mark place ≡ true
+IsMarked mark page rows =
+    (place : ℕ) → is_of_page page (slice_index_or rows place None) ≡ true → may_stand mark place ≡ true
 
 -- so it is for each page; a mark may say more places than there are such rows
 abbrev pub AreMarked : List Mark → List (Option Binding) → Type 0

@@ -99,19 +99,9 @@ fn without_env(row: Option<Binding>, env: u8, gone: u8, pages: &Pages) -> Option
     ensures { result ≡ without (goes_with (row_in pages.now) gone env) row }
 {
     let binding = row?;
-    if env == gone || page_belongs_to(pages, binding.page, gone) {
+    if env == gone || pages.belongs_to(binding.page, gone) {
         None
     } else {
         row
-    }
-}
-
-/// Whether the page is this environment's; one that isn't there is nobody's.
-fn page_belongs_to(pages: &Pages, page: u32, env: u8) -> bool
-    ensures { result ≡ belongs_to env (row_in pages.now page) }
-{
-    match pages.row(page) {
-        Some(row) => row.belongs_to(env),
-        None => false,
     }
 }

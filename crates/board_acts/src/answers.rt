@@ -3,13 +3,7 @@ ghost use Rattle.std.specs.Prelude.{◌≡◌};
 ghost use Rattle.world_model.specs.Item.{answered_cpu};
 
 use mips_exec::Cpu;
-use world_model::Verdict;
-
-/// The register of an answer's code.
-const CODE_REGISTER: u8 = 2;
-
-/// The register of an answer's value.
-const VALUE_REGISTER: u8 = 3;
+use world_model::{CODE_REGISTER, VALUE_REGISTER, Verdict};
 
 /// A call's caller finds the answer, and goes on behind the call.
 pub fn answer(cpu: &mut Cpu, verdict: Verdict)

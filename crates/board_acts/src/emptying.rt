@@ -1,6 +1,5 @@
 //! Which rows of the TLB are emptied where mappings go.
 ghost use Rattle.std.specs.Prelude.{◌≡◌, ◌∷◌, []};
-ghost use Rattle.page_book.specs.Row.{belongs_to};
 ghost use Rattle.page_book.specs.Rows.{row_in};
 ghost use Rattle.tlb_model.specs.Flushes.{OfEnv, OfPair, all_flushed, replaced_pair};
 
@@ -22,17 +21,7 @@ impl RowTest for OfDead<'_> {
     ghost test = { λ d. is_of_env (row_in d.pages.now) d.env };
 
     fn holds(&self, row: Row) -> bool {
-        row.pid() == self.env || is_of_owner(self.pages, row.page(), self.env)
-    }
-}
-
-/// Whether a page is an environment's, guaranteed to it or not.
-fn is_of_owner(pages: &Pages, page: u32, env: u8) -> bool
-    ensures { result ≡ belongs_to env (row_in pages.now page) }
-{
-    match pages.row(page) {
-        Some(row) => row.belongs_to(env),
-        None => false,
+        row.pid() == self.env || self.pages.belongs_to(row.page(), self.env)
     }
 }
 

@@ -21,7 +21,7 @@ use Rattle.page_laws.proofs.Stripes.{stripes_end}
 use Rattle.page_laws.proofs.Sights.{HasNone, nothing_seen}
 use Rattle.slot_vector.specs.Slices.{excess_of, hold_at, without_env}
 use Rattle.slot_vector.proofs.Owed.{excess_set}
-use Rattle.world_model.specs.declared.slot.Hold.{Hold}
+use Rattle.world_model.specs.declared.hold.Hold.{Hold}
 use Rattle.world_model.specs.declared.life.Cause.{Cause}
 use Rattle.world_model.specs.Book.{hold_without, has_part, is_runner}
 use Rattle.world_model.specs.Item.{absorb_all}

@@ -6,7 +6,7 @@ use Rattle.std.proofs.lemmas.Bool.{ne_eqb, eq-eqb}
 use Rattle.kernel_journal.specs.Ledger.{Ledger, with_row}
 use Rattle.kernel_journal.specs.declared.row.Row.{Row}
 use Rattle.slot_vector.specs.Slices.{bit, hold_at, mask_of}
-use Rattle.world_model.specs.declared.slot.Hold.{Hold}
+use Rattle.world_model.specs.declared.hold.Hold.{Hold}
 use Rattle.world_model.specs.Book.{hold_without, has_part}
 use Rattle.world_model.specs.Death.{released_rows}
 use Rattle.world_model.specs.SlotCalls.{slot_row}

@@ -5,7 +5,7 @@ use Rattle.slot_vector.specs.Slices.{hold_at}
 use Rattle.world_model.specs.declared.call.Deed.{Deed}
 use Rattle.world_model.specs.declared.call.Deed.TheVariants.{TakesSlot, DropsSlot}
 use Rattle.world_model.specs.declared.verdict.Verdict.TheVariants.{Grant}
-use Rattle.world_model.specs.declared.slot.Hold.{Hold}
+use Rattle.world_model.specs.declared.hold.Hold.{Hold}
 use Rattle.world_model.specs.Book.{own_hold}
 use Rattle.world_model.specs.Item.{own_part}
 use Rattle.world_model.specs.May.{MayDrop, MayTake}

@@ -16,7 +16,7 @@ use Rattle.slot_vector.specs.Slices.{Slices, HasTicks, after_timer, after_turn, 
 use Rattle.slot_vector.specs.Laws.{owed_by_all}
 use Rattle.slot_vector.proofs.Whole.{ran_is}
 use Rattle.env_frames.specs.declared.context.Context.{Context}
-use Rattle.world_model.specs.declared.slot.Hold.{Hold}
+use Rattle.world_model.specs.declared.hold.Hold.{Hold}
 use Rattle.world_model.specs.declared.slot.Runner.{Runner}
 use Rattle.world_model.specs.declared.slot.Turn.{Turn}
 use Rattle.world_model.specs.declared.slot.Phase.{Phase}

@@ -48,7 +48,7 @@ use Rattle.slot_vector.specs.declared.turn.NextTurn.TheVariants as next
 use Rattle.world_model.specs.declared.timer.Timer.{Timer}
 use Rattle.world_model.specs.declared.timer.Timer.TheVariants as timer
 use Rattle.slot_vector.specs.Slices.{Slices, after_timer, after_turn, excess_of, given_to, hold_at, timer_answer, whole_turn_of, turn_ended, with_hold, without_env}
-use Rattle.world_model.specs.declared.slot.Hold.{Hold}
+use Rattle.world_model.specs.declared.hold.Hold.{Hold}
 use Rattle.world_model.specs.declared.slot.Runner.{Runner}
 use Rattle.world_model.specs.declared.slot.Turn.{Turn}
 use Rattle.world_model.specs.declared.call.Call.{Call}

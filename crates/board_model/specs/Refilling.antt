@@ -1,4 +1,4 @@
--- How the accesses of the runner's step are looked up in the TLB, and refilled, on a board.
+-- How the accesses of the runner's step are looked up in the TLB, and refilled, on a board. For proofs: nobody has to believe it.
 use Rattle.std.specs.Prelude.{◌≡◌, ◌≤◌, ◌<◌, ℕ, Bool, List, length, is_some, Option, Some, None}
 use Rattle.env_frames.specs.declared.mapping.Mapping.{Mapping}
 use Rattle.env_frames.specs.Frame.{mapping_at}

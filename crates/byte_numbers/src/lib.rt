@@ -2,7 +2,8 @@
 //! numbers stand so reads and writes them by these.
 #![tactic(auto)]
 
-ghost use Rattle.std.specs.Prelude.{◌≡◌, ◌+◌, ◌≤◌, ◌++◌, length, OnErr, OnOk};
+ghost use Rattle.std.specs.Prelude.{◌≡◌, ◌≢◌, ◌+◌, ◌<◌, ◌≤◌, ◌++◌, length, OnErr, OnOk};
+ghost use Rattle.byteorder.specs.Endian.{little_number};
 ghost use Rattle.std.specs.Int.{to_le_bytes, w16, w32};
 ghost use Rattle.byte_numbers.specs.Numbers.{half_at, word_at};
 
@@ -25,6 +26,22 @@ pub fn word_at(bytes: &[u8], place: usize) -> u32
     ensures { result ≡ word_at bytes.now place }
 {
     LittleEndian::read_u32(&bytes[place..])
+}
+
+/// The number in the first `width` bytes, which are 1, 2 or 4.
+#[inline(always)]
+pub fn number_at(bytes: &[u8], width: u8) -> u32
+    requires some { 0 < width }
+    requires whole { width ≢ 3 }
+    requires within { width ≤ length bytes.now }
+    requires word { width ≤ 4 }
+    ensures { result ≡ little_number width bytes.now }
+{
+    match width {
+        1 => u32::from(bytes[0]),
+        2 => u32::from(LittleEndian::read_u16(bytes)),
+        _ => LittleEndian::read_u32(bytes),
+    }
 }
 
 /// Puts a number at the end, in two bytes.

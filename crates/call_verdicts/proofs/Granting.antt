@@ -25,7 +25,7 @@ use Rattle.bind_book.specs.Stripe.{binding_at}
 use Rattle.world_model.specs.declared.call.Call.TheVariants as call
 use Rattle.world_model.specs.declared.code.Code.{Code}
 use Rattle.world_model.specs.declared.code.Code.TheVariants as code
-use Rattle.world_model.specs.declared.slot.Hold.{Hold}
+use Rattle.world_model.specs.declared.hold.Hold.{Hold}
 use Rattle.world_model.specs.declared.verdict.Verdict.TheVariants.{Refuse, Grant}
 use Rattle.world_model.specs.declared.verdict.HandlerNo.{HandlerNo}
 use Rattle.world_model.specs.declared.verdict.HandlerNo.TheVariants as handler_no

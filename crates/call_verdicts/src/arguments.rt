@@ -5,20 +5,12 @@ ghost use Rattle.world_model.specs.Call.{binding_of, presented as presented_of, 
 use bind_book::Binding;
 use mips_exec::Cpu;
 use page_book::Capabilities;
+use world_model::{
+    FIFTH_ARGUMENT, FIRST_ARGUMENT, FOURTH_ARGUMENT, SECOND_ARGUMENT, THIRD_ARGUMENT,
+};
 
 /// The argument of a yield that names no environment, and of an allocation that names no page.
 pub(crate) const ANY: u32 = 0xffff_ffff;
-
-/// The registers of a call's arguments.
-pub(crate) const FIRST_ARGUMENT: u8 = 4;
-
-pub(crate) const SECOND_ARGUMENT: u8 = 5;
-
-pub(crate) const THIRD_ARGUMENT: u8 = 6;
-
-const FOURTH_ARGUMENT: u8 = 7;
-
-const FIFTH_ARGUMENT: u8 = 8;
 
 /// A capability word in two registers, the low half first.
 fn word(low: u32, high: u32) -> u64

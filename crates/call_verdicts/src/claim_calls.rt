@@ -4,12 +4,11 @@ ghost use Rattle.world_model.specs.Book.{running};
 ghost use Rattle.world_model.specs.ClaimCalls.{claim, claim_verdict, filter_at};
 ghost use Rattle.world_model.specs.Solo.{sight};
 
-use crate::arguments::{FIRST_ARGUMENT, SECOND_ARGUMENT, THIRD_ARGUMENT};
 use crate::page_calls::refuse_change;
 use crate::view::CallView;
 use filter_core::{ATOM_SIZE, Filter, MOST_ATOMS, read_filter};
 use filter_tree::ClaimNo;
-use world_model::{Code, Verdict};
+use world_model::{Code, FIRST_ARGUMENT, SECOND_ARGUMENT, THIRD_ARGUMENT, Verdict};
 
 /// The filter that a claim of the runner's names, of so many atoms from an address on; else why there is none.
 pub fn claimed_filter<V: CallView>(

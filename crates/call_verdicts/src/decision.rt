@@ -9,9 +9,7 @@ ghost use Rattle.world_model.specs.declared.call.Deed.TheVariants.{Claims, Downl
 ghost use Rattle.world_model.specs.Call.{any, context_deed, deed_of as deed_of_call, line_deed, transfer_deed, yield_deed};
 ghost use Rattle.world_model.specs.Verdict.{verdict};
 
-use crate::arguments::{
-    ANY, FIRST_ARGUMENT, SECOND_ARGUMENT, THIRD_ARGUMENT, binding, presented, words,
-};
+use crate::arguments::{ANY, binding, presented, words};
 use crate::backup_calls::refuse_load;
 use crate::claim_calls::decide_claim;
 use crate::handler_calls::decide_download;
@@ -23,7 +21,10 @@ use crate::slot_calls::{decide_transfer, decide_yield};
 use crate::view::CallView;
 use env_frames::{Context, TransferKind};
 use mips_exec::Cpu;
-use world_model::{Call, Code, Deed, OwnDeed, Verdict, drop_refusal, take_refusal};
+use world_model::{
+    Call, Code, Deed, FIRST_ARGUMENT, OwnDeed, SECOND_ARGUMENT, THIRD_ARGUMENT, Verdict,
+    drop_refusal, take_refusal,
+};
 
 /// The verdict on a call of the runner's; a number that names no call is refused. Each reader of the view is asked at
 /// most once. It is inlined, and where the call is known it is the code of that call alone.

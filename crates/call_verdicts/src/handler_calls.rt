@@ -6,10 +6,9 @@ ghost use Rattle.world_model.specs.Book.{running};
 ghost use Rattle.world_model.specs.Downloads.{download, download_verdict, handler_at, handler_bytes};
 ghost use Rattle.world_model.specs.Solo.{sight};
 
-use crate::arguments::{FIRST_ARGUMENT, SECOND_ARGUMENT, THIRD_ARGUMENT};
 use crate::view::CallView;
 use handler_rules::{Handler, HandlerFault, MOST_WORDS, WORD_SIZE, read_handler};
-use world_model::{Code, HandlerNo, Verdict};
+use world_model::{Code, FIRST_ARGUMENT, HandlerNo, SECOND_ARGUMENT, THIRD_ARGUMENT, Verdict};
 
 /// The bytes of the words that a call of the runner's names; of none they need no range.
 fn handler_bytes<V: CallView>(view: &V, env: u8, address: u32, words: u32) -> Option<&[u8]>

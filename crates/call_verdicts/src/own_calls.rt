@@ -4,16 +4,12 @@ ghost use Rattle.world_model.specs.Book.{running};
 ghost use Rattle.world_model.specs.OwnCalls.{refusal_of_context};
 ghost use Rattle.call_verdicts.specs.Refusals.{refusal_of_put_call, refusal_of_send_call};
 
-use crate::arguments::{FIRST_ARGUMENT, SECOND_ARGUMENT};
 use crate::view::CallView;
 use aegis_limits::CONSOLE_SIZE;
 use env_frames::Context;
 use external_event::{LEAST_FRAME_SIZE, MOST_PACKET_SIZE, MOST_SENT};
-use mips_exec::Cpu;
-use world_model::Code;
-
-/// The first address that isn't a user's.
-const USER_END: u32 = 0x8000_0000;
+use mips_exec::{Cpu, USER_END};
+use world_model::{Code, FIRST_ARGUMENT, SECOND_ARGUMENT};
 
 /// Why the runner's put is refused, in the order of testing.
 pub(crate) fn refuse_put<V: CallView>(view: &V, env: u8) -> Option<Code>

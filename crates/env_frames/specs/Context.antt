@@ -1,11 +1,10 @@
 -- The context page, and what an exception leaves there.
-use Rattle.std.specs.Prelude.{ℕ, ◌+◌, ◌^◌, List, [], ◌∷◌, false, ◌==◌, if◌then◌else◌, Option, Some, None}
+use Rattle.std.specs.Prelude.{ℕ, ◌+◌, ◌^◌, List, [], ◌∷◌, ◌==◌, if◌then◌else◌, Option, Some, None}
 use Rattle.std.specs.List.{flat_map}
 use Rattle.mips_exec.specs.declared.registers.Cpu.{Cpu}
 use Rattle.mips_exec.specs.declared.exception.Exc.{Exc}
-use Rattle.mips_exec.specs.Cpu.{reg, rested, restart_of, with_reg}
+use Rattle.mips_exec.specs.Cpu.{going_on_at, reg, rested, restart_of, with_reg}
 use Rattle.mips_exec.specs.Exception.{cause_word_of}
-use Rattle.mips_exec.specs.Word.{low_word}
 use Rattle.frame_store.specs.Pages.{word_bytes}
 use Rattle.env_frames.specs.declared.context.Handlers.{Handlers}
 use Rattle.env_frames.specs.declared.context.Context.{Context}
@@ -65,14 +64,11 @@ exception_words exc cpu =
 unfoldable pub exception_bytes : Exc → Cpu → List ℕ
 exception_bytes exc cpu = flat_map word_bytes (exception_words exc cpu)
 
--- to go on at an address, out of a delay slot
-abbrev pub continued : ℕ → Cpu → Cpu
-continued address cpu = record cpu { pc = address; next = low_word (address + 4); slot = false }
-
 -- the handler finds Cause in $1, EPC in $26 and the bad address in $27
 abbrev pub raised_cpu : ℕ → Exc → Cpu → Cpu
 raised_cpu handler exc cpu =
-    continued handler (with_reg (with_reg (with_reg cpu 1 (cause_word_of exc cpu.slot)) 26 (restart_of cpu)) 27 exc.bad)
+    let caused = with_reg cpu 1 (cause_word_of exc cpu.slot) in
+    going_on_at (with_reg (with_reg caused 26 (restart_of cpu)) 27 exc.bad) handler
 
 -- What the start of a slice leaves in the start area, of registers that go on at their restart address.
 unfoldable pub start_bytes : Cpu → List ℕ
@@ -88,7 +84,7 @@ end_bytes cpu = flat_map word_bytes (reg cpu 26 ∷ restart_of cpu ∷ end_cause
 
 -- a handler of starts or ends finds the resume address in $26
 abbrev pub resumed_cpu : ℕ → Cpu → Cpu
-resumed_cpu handler cpu = continued handler (with_reg cpu 26 (restart_of cpu))
+resumed_cpu handler cpu = going_on_at (with_reg cpu 26 (restart_of cpu)) handler
 
 -- the registers with which a slice starts: at the handler of starts, where there is one, else at rest
 abbrev pub started_cpu : ℕ → Cpu → Cpu

@@ -1,7 +1,7 @@
 //! What the kernel's upcalls leave in the context page, and in the registers of their handlers.
 ghost use Rattle.std.specs.Prelude.{◌≡◌};
 ghost use Rattle.env_frames.specs.Transfer.{carried, entered_cpu, entry_bytes};
-ghost use Rattle.env_frames.specs.Context.{continued, end_bytes, end_cause, exception_bytes, raised_cpu, resumed_cpu, start_bytes};
+ghost use Rattle.env_frames.specs.Context.{end_bytes, end_cause, exception_bytes, raised_cpu, resumed_cpu, start_bytes};
 
 use crate::context::{
     END_AREA_SIZE, ENTRY_AREA_SIZE, EXCEPTION_AREA_SIZE, GENERAL_SIZE, START_AREA_SIZE,
@@ -98,7 +98,7 @@ pub(crate) fn enter_raised(cpu: &mut Cpu, handler: u32, exc: &Exc)
     cpu.set_reg(CAUSE_REGISTER, cause);
     cpu.set_reg(RESUME_REGISTER, epc);
     cpu.set_reg(BAD_ADDRESS_REGISTER, exc.bad);
-    go_on(cpu, handler);
+    cpu.go_on_at(handler);
 }
 
 /// Continues at a handler of starts or ends, which finds the resume address in a register.
@@ -107,7 +107,7 @@ pub(crate) fn enter_resumed(cpu: &mut Cpu, handler: u32)
 {
     let address = restart(cpu);
     cpu.set_reg(RESUME_REGISTER, address);
-    go_on(cpu, handler);
+    cpu.go_on_at(handler);
 }
 
 /// The registers with which a transfer enters its target: its caller's `$1` to `$31`, HI and LO, at the entry.
@@ -117,15 +117,6 @@ pub(crate) fn entered(entry: u32, caller: &Cpu) -> Cpu
     let mut regs = [0; 32];
     regs[1..32].copy_from_slice(&caller.regs[1..32]);
     let mut cpu = Cpu { regs, ..*caller };
-    go_on(&mut cpu, entry);
+    cpu.go_on_at(entry);
     cpu
-}
-
-/// Goes on at an address, out of a delay slot.
-fn go_on(cpu: &mut Cpu, address: u32)
-    ensures { cpu.new ≡ continued address cpu.old }
-{
-    cpu.pc = address;
-    cpu.next = address.wrapping_add(4);
-    cpu.slot = false;
 }

@@ -12,16 +12,14 @@ ghost use Rattle.feed_telling.specs.Tell.{act_shown};
 ghost use Rattle.feed_board.specs.Acting.{call_shown, outcome_shown, trap_shown, write_shown};
 
 use aegis_calls::Board;
+use aegis_limits::PAGE_BYTES;
 use call_verdicts::CallView;
 use env_frames::Context;
 use feed_telling::{NextAct, Stored};
 use frame_store::Frames;
-use guest_memory::{PAGE_BYTES, Space, Written, peek};
+use guest_memory::{Space, Written, peek};
 use mips_exec::{Cpu, Outcome};
-use world_model::EXIT;
-
-/// The register of a call's number.
-const CALL_NUMBER: u8 = 2;
+use world_model::{CALL_NUMBER, EXIT};
 
 /// What others see of a store, if there is one: nothing, unless it goes through a binding.
 fn act_of_write(space: &Space<'_>, written: Option<Written>) -> NextAct

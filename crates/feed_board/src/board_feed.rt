@@ -3,7 +3,7 @@ ghost use Rattle.std.specs.Prelude.{◌≡◌};
 
 use crate::acts::next_act;
 use crate::arriving::{arrival, page_left};
-use crate::pages::{belongs_to, has_bound, owns, page_bytes};
+use crate::pages::{has_bound, owns, page_bytes};
 use crate::timing::{is_living, pending, timer, verdict};
 use aegis_calls::Board;
 use aegis_limits::PAGE_SIZE;
@@ -63,7 +63,7 @@ impl FeedView for BoardFeed<'_> {
     }
 
     fn belongs_to(&self, env: u8, page: u32) -> bool {
-        belongs_to(self.board.pages(), env, page)
+        self.board.pages().belongs_to(page, env)
     }
 
     fn has_bound(&self, env: u8, page: u32) -> bool {

@@ -1,6 +1,6 @@
 //! Whose pages are, who has bound them, and their bytes.
 ghost use Rattle.std.specs.Prelude.{◌≡◌};
-ghost use Rattle.page_book.specs.Row.{belongs_to as belongs_to_row, is_owned_by};
+ghost use Rattle.page_book.specs.Row.{is_owned_by};
 ghost use Rattle.page_book.specs.Rows.{row_in};
 ghost use Rattle.bind_book.specs.Stripe.{is_bound, is_of_page as is_binding_of, stripes};
 ghost use Rattle.world_model.specs.PageCalls.{page_bytes as bytes_of_page};
@@ -11,16 +11,6 @@ use aegis_limits::law_versions_are_within;
 use bind_book::{Binding, Bindings};
 use board_acts::is_owned;
 use page_book::{PageRow, Pages};
-
-/// Whether a page is an environment's, guaranteed to it or not.
-pub(crate) fn belongs_to(pages: &Pages, env: u8, page: u32) -> bool
-    ensures { result ≡ belongs_to_row env (row_in pages.now page) }
-{
-    match pages.row(page) {
-        Some(row) => row.belongs_to(env),
-        None => false,
-    }
-}
 
 /// Whether an environment owns a page that isn't guaranteed to it.
 pub(crate) fn owns(pages: &Pages, env: u8, page: u32) -> bool

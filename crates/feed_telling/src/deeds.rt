@@ -16,10 +16,7 @@ use crate::view::FeedView;
 use aegis_limits::{OutOfMemory, PAGE_SIZE};
 use call_verdicts::deed_of;
 use feed_log::FeedLog;
-use world_model::{Call, Deed, Verdict};
-
-/// The register of a call's number.
-const CALL_NUMBER: u8 = 2;
+use world_model::{CALL_NUMBER, Call, Deed, Verdict};
 
 /// The bytes of a page that is allocated.
 const ZEROS: [u8; PAGE_SIZE] = [0; PAGE_SIZE];

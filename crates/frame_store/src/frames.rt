@@ -1,10 +1,10 @@
 //! The pages of physical memory, lent of one vector of all bytes.
-ghost use Rattle.std.specs.Prelude.{◌≡◌, ◌<◌, ◌≤◌, ◌+◌, ◌*◌, ◌%◌, length, IfOk};
+ghost use Rattle.std.specs.Prelude.{◌≡◌, ◌<◌, ◌≤◌, ◌+◌, ◌*◌, ◌%◌, drop, length, IfOk};
 ghost use Rattle.aegis_limits.specs.Limits.{least_pages, most_pages, page_size};
 ghost use Rattle.std.specs.Borrow.{sem};
 ghost use Rattle.frame_store.specs.Pages.{zero_page, zeroed, page_at, with_page, after_put, word_at, word_bytes};
 
-use aegis_limits::{OutOfMemory, PAGE_SIZE};
+use aegis_limits::{OutOfMemory, PAGE_BYTES, PAGE_SIZE};
 use byteorder::{ByteOrder, LittleEndian};
 use std::alloc::Global;
 use std::marker::Model;
@@ -66,6 +66,17 @@ impl Frames {
     {
         let start = page_start(n);
         &self.bytes[start..start + PAGE_SIZE]
+    }
+
+    /// The bytes of the page with this number from an address on, whose place in the page is what it is modulo `PAGE_SIZE`.
+    #[inline(always)]
+    pub fn bytes_from(&self, n: u32, address: u32) -> &[u8]
+        requires { n < length self.now }
+        ensures bytes { result.now ≡ drop (address % page_size) (page_at self.now n) }
+        ensures rest { length result.now + address % page_size ≡ page_size }
+    {
+        let bytes = self.page(n);
+        &bytes[(address % PAGE_BYTES) as usize..]
     }
 
     /// The bytes of the page with this number, `PAGE_SIZE` of them, to be written. All other pages stay as they are.

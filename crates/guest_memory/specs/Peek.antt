@@ -1,4 +1,4 @@
--- A store that is noted and not made.
+-- A store that is noted and not made. For proofs: nobody has to believe it.
 use Rattle.std.specs.Prelude.{◌≡◌, ℕ, List, Option, Some, None}
 use Rattle.std.specs.Option.{option_map}
 use Rattle.mips_exec.specs.Access.{Write, low_bytes}

@@ -14,6 +14,6 @@ mod space;
 
 pub use next_step::peek;
 pub use peek_bus::Written;
-pub use place::{PAGE_BYTES, bytes_from, locate};
+pub use place::locate;
 pub use range::guest_range;
 pub use space::Space;

@@ -1,14 +1,12 @@
 //! An environment's memory, of which a store is noted and not made.
-ghost use Rattle.std.specs.Prelude.{◌≡◌, ◌≢◌, ◌<◌, ◌≤◌, length};
-ghost use Rattle.byteorder.specs.Endian.{little_number};
 
-use crate::place::{bytes_from, locate};
+use crate::place::locate;
 use crate::space::Space;
+use byte_numbers::number_at;
 use byteorder::{ByteOrder, LittleEndian};
 use frame_store::Frames;
-use mips_exec::Exc;
+use mips_exec::{AccessKind, Exc};
 use mips_step::Bus;
-use world_model::Purpose;
 
 /// A store: its address, and the low bytes of a value, 1 to 4.
 #[derive(Clone, Copy)]
@@ -48,37 +46,22 @@ impl Bus for PeekBus<'_> {
     ghost stores_on = { λ a b c address bytes kept then. then };
 
     fn fetch(&mut self, va: u32) -> Result<u32, Exc> {
-        let mapping = locate(self.frames, self.space, Purpose::Fetch, va)?;
-        Ok(LittleEndian::read_u32(bytes_from(self.frames, mapping.page, va)))
+        let mapping = locate(self.frames, self.space, AccessKind::Fetch, va)?;
+        Ok(LittleEndian::read_u32(self.frames.bytes_from(mapping.page, va)))
     }
 
     fn load(&mut self, va: u32, width: u8) -> Result<u32, Exc> {
-        let mapping = locate(self.frames, self.space, Purpose::Load, va)?;
-        Ok(number_at(bytes_from(self.frames, mapping.page, va), width))
+        let mapping = locate(self.frames, self.space, AccessKind::Load, va)?;
+        Ok(number_at(self.frames.bytes_from(mapping.page, va), width))
     }
 
     fn store(&mut self, va: u32, width: u8, value: u32) -> Result<(), Exc> {
-        let _mapping = locate(self.frames, self.space, Purpose::Store, va)?;
+        let _mapping = locate(self.frames, self.space, AccessKind::Store, va)?;
         self.written = Some(Written {
             address: va,
             width,
             value,
         });
         Ok(())
-    }
-}
-
-/// The number that the first `width` bytes spell, the lowest first.
-fn number_at(bytes: &[u8], width: u8) -> u32
-    requires some { 0 < width }
-    requires whole { width ≢ 3 }
-    requires within { width ≤ length bytes.now }
-    requires word { width ≤ 4 }
-    ensures { result ≡ little_number width bytes.now }
-{
-    match width {
-        1 => u32::from(bytes[0]),
-        2 => u32::from(LittleEndian::read_u16(bytes)),
-        _ => LittleEndian::read_u32(bytes),
     }
 }

@@ -5,9 +5,11 @@ ghost use Rattle.world_model.specs.Call.{good_range};
 ghost use Rattle.guest_memory.specs.Space.{lookup};
 ghost use Rattle.guest_memory.specs.Look.{look};
 
-use crate::place::{PAGE_BYTES, USER_END, bytes_from, mapping_of};
+use crate::place::mapping_of;
 use crate::space::Space;
+use aegis_limits::PAGE_BYTES;
 use frame_store::Frames;
+use mips_exec::USER_END;
 
 /// The bytes of a good range: so many from an address on, in one page that the environment sees,
 /// below 0x80000000.
@@ -23,5 +25,5 @@ pub fn guest_range<'a>(
         return None;
     }
     let mapping = mapping_of(frames, space, address / PAGE_BYTES)?;
-    Some(&bytes_from(frames, mapping.page, address)[..size as usize])
+    Some(&frames.bytes_from(mapping.page, address)[..size as usize])
 }

@@ -3,7 +3,7 @@ use Rattle.std.proofs.Common.{arith, refl, sym, ◌∙◌, ap, subst, ◌≡◌,
 use Rattle.std.specs.Prelude.{if◌then◌else◌}
 use Rattle.std.proofs.lemmas.Bool.{and_left, and_right, and_from, cases_lt}
 use Rattle.kernel_journal.specs.declared.row.Row.{Row}
-use Rattle.world_model.specs.declared.slot.Hold.{Hold}
+use Rattle.world_model.specs.declared.hold.Hold.{Hold}
 use Rattle.world_model.specs.Book.{has_part, hold_without}
 use Rattle.world_model.specs.Death.{released_row, released_rows}
 use Rattle.world_model.specs.SlotCalls.{slot_row}

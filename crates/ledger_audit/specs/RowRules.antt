@@ -3,7 +3,7 @@ use Rattle.std.specs.Prelude.{ℕ, zero, suc, ◌+◌, List, [], ◌∷◌, ◌+
 use Rattle.aegis_limits.specs.Limits.{most_slots, excess_limit}
 use Rattle.kernel_journal.specs.declared.row.Row.{Row}
 use Rattle.kernel_journal.specs.declared.row.Row.TheVariants as row
-use Rattle.world_model.specs.declared.slot.Hold.{Hold}
+use Rattle.world_model.specs.declared.hold.Hold.{Hold}
 use Rattle.world_model.specs.Book.{own_hold}
 use Rattle.world_model.specs.SlotCalls.{dropped, holds, in_grace, slot_row}
 use Rattle.kernel_journal.specs.RowTable.{time_of}

@@ -6,7 +6,7 @@ use Rattle.std.proofs.lemmas.List.{append-nil}
 use Rattle.aegis_limits.specs.Limits.{most_slots}
 use Rattle.kernel_journal.specs.declared.row.Row.{Row}
 use Rattle.kernel_journal.specs.declared.row.Row.TheVariants as row
-use Rattle.world_model.specs.declared.slot.Hold.{Hold}
+use Rattle.world_model.specs.declared.hold.Hold.{Hold}
 use Rattle.world_model.specs.Book.{has_part, hold_without, own_hold}
 use Rattle.world_model.specs.Death.{released_row, released_rows}
 use Rattle.world_model.specs.SlotCalls.{slot_row}

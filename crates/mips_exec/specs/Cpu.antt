@@ -41,9 +41,13 @@ address_of cpu base imm = low_word (reg cpu base + sign16_of imm)
 abbrev pub restart_of : Cpu → ℕ
 restart_of cpu = if cpu.slot then low_word (cpu.pc + (2 ^ 32 - 4)) else cpu.pc
 
+-- the registers that go on at an address, out of a delay slot
+abbrev pub going_on_at : Cpu → ℕ → Cpu
+going_on_at cpu address = record cpu { pc = address; next = low_word (address + 4); slot = false }
+
 -- a stopped machine runs again from its restart address, so a branch whose slot was due runs again
 abbrev pub rested : Cpu → Cpu
-rested cpu = record cpu { pc = restart_of cpu; next = low_word (restart_of cpu + 4); slot = false }
+rested cpu = going_on_at cpu (restart_of cpu)
 
 -- the registers of a machine in which nothing has run
 abbrev pub blank_cpu : Cpu

@@ -1,5 +1,5 @@
 -- Exceptions, and what the Cause register shows of them.
-use Rattle.std.specs.Prelude.{ℕ, ◌+◌, ◌*◌, ◌%◌, ◌^◌, Bool, if◌then◌else◌}
+use Rattle.std.specs.Prelude.{ℕ, ◌+◌, ◌*◌, ◌%◌, ◌^◌, Bool, true, false, if◌then◌else◌}
 use Rattle.mips_exec.specs.declared.exception.ExcCode.{ExcCode}
 use Rattle.mips_exec.specs.declared.exception.ExcCode.TheVariants.{Int, Mod, Tlbl, Tlbs, Adel, Ades, Ibe, Dbe, Sys, Bp, Ri, Cpu, Ov}
 use Rattle.mips_exec.specs.declared.exception.Exc.{Exc}
@@ -19,6 +19,12 @@ number_of Bp = 9
 number_of Ri = 10
 number_of Cpu = 11
 number_of Ov = 12
+
+-- a miss of the TLB
+abbrev pub is_miss : ExcCode → Bool
+is_miss Tlbl = true
+is_miss Tlbs = true
+is_miss _ = false
 
 -- the coprocessor that Cause names: that of an unusable coprocessor, else 0
 abbrev pub unit_shown : ExcCode → ℕ → ℕ

@@ -1,4 +1,5 @@
 pub mod Access
+pub mod AccessKind
 pub mod Cpu
 pub mod Effect
 pub mod Exception

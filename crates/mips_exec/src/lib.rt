@@ -3,11 +3,13 @@
 //! `mips_step` has the code that makes a step.
 #![tactic(auto)]
 
+mod access_kind;
 mod change;
 mod exception;
 mod reach;
 mod registers;
 
+pub use access_kind::{AccessKind, USER_END};
 pub use change::Change;
 pub use exception::{Exc, ExcCode, Outcome, cause_word};
 pub use reach::{Access, Spot};

@@ -1,6 +1,6 @@
 //! The registers of the processor.
 ghost use Rattle.std.specs.Prelude.{◌≡◌};
-ghost use Rattle.mips_exec.specs.Cpu.{advanced, blank_cpu, reg, rested, restart_of, with_reg};
+ghost use Rattle.mips_exec.specs.Cpu.{advanced, blank_cpu, going_on_at, reg, rested, restart_of, with_reg};
 
 /// The registers of the processor (`docs/MACHINE.md`, "Registers").
 #[derive(Clone, Copy)]
@@ -38,13 +38,18 @@ impl Cpu {
     pub fn rested(&self) -> Cpu
         ensures { result ≡ rested self.now }
     {
-        let address = restart(self);
-        Cpu {
-            pc: address,
-            next: address.wrapping_add(4),
-            slot: false,
-            ..*self
-        }
+        let mut cpu = *self;
+        cpu.go_on_at(restart(self));
+        cpu
+    }
+
+    /// Goes on at an address, out of a delay slot.
+    pub fn go_on_at(&mut self, address: u32)
+        ensures { self.new ≡ going_on_at self.old address }
+    {
+        self.pc = address;
+        self.next = address.wrapping_add(4);
+        self.slot = false;
     }
 
     /// What register `n` reads, 0 from 32 on.

@@ -5,7 +5,7 @@ ghost use Rattle.aegis_limits.specs.Limits.{environment_numbers, least_pages, mo
 ghost use Rattle.page_book.specs.declared.row.PageRow.TheVariants.{Free, Guaranteed, Owned};
 ghost use Rattle.page_book.specs.declared.refusal.PageNo.TheVariants.{NoneFree};
 ghost use Rattle.page_book.specs.PageSet.{one_if};
-ghost use Rattle.page_book.specs.Row.{is_free, is_guaranteed, owner_of, alloc_refusal, change_refusal, bind_refusal, released, unless};
+ghost use Rattle.page_book.specs.Row.{belongs_to, is_free, is_guaranteed, owner_of, alloc_refusal, change_refusal, bind_refusal, released, unless};
 ghost use Rattle.page_book.specs.Rows.{row_in, first_free, free_pages, owned_pages, given, changed_unless};
 
 use crate::holdings::Holdings;
@@ -86,6 +86,16 @@ impl Pages {
         ensures { result ≡ owner_of (row_in self.now page) }
     {
         self.row_there(page).owner()
+    }
+
+    /// Whether the page is this environment's, guaranteed or not; one that isn't there is nobody's.
+    pub fn belongs_to(&self, page: u32, env: u8) -> bool
+        ensures { result ≡ belongs_to env (row_in self.now page) }
+    {
+        match self.row(page) {
+            Some(row) => row.belongs_to(env),
+            None => false,
+        }
     }
 
     /// Whether there is a page of this number that is a guaranteed one of an environment.

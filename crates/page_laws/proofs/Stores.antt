@@ -25,10 +25,11 @@ use Rattle.bind_book.specs.declared.binding.Binding.{Binding}
 use Rattle.bind_book.specs.Stripe.{binding_at}
 use Rattle.bind_book.proofs.Rows.{found_in_row}
 use Rattle.world_model.specs.declared.life.Cause.TheVariants as cause
-use Rattle.world_model.specs.declared.access.Purpose.TheVariants as purpose
+use Rattle.mips_exec.specs.declared.access_kind.AccessKind.TheVariants as kind
 use Rattle.world_model.specs.Call.{exit_number}
 use Rattle.mips_exec.specs.Cpu.{reg}
-use Rattle.world_model.specs.Page.{KeptPage, Mapped, answers_by, if_served, raised, reach, served}
+use Rattle.mips_exec.specs.AccessKind.{raised}
+use Rattle.world_model.specs.Page.{KeptPage, Mapped, answers_by, if_served, reach, served}
 use Rattle.world_model.specs.Solo.{Solo, Store, Kept, Physical, Place, bound_place, kept_at, leads, mapped, place_at, sight, store_through}
 use Rattle.world_model.specs.Step.{Stores, Raises, Dies, act_at_call, act_of, step_alone, store_act}
 use Rattle.page_laws.specs.Through.{IsThrough, StoresGoThrough}
@@ -91,15 +92,15 @@ answer_to r = if_served (λ (m : Mapped). tt) r
 
 -- it is granted where its VPN leads to a page that may be stored to
 module _ (look : ℕ → Option Mapped) (address : ℕ) where
-  by_writable : (m : Mapped) (t : Bool) → m.writable ≡ t → answer_to (if not t then Err (raised code.Mod address) else Ok m) ≡ Ok tt → t ≡ true
+  by_writable : (m : Mapped) (t : Bool) → m.writable ≡ t → answer_to (if not t then raised code.Mod address else Ok m) ≡ Ok tt → t ≡ true
   by_writable m true is granted = refl
   by_writable m false is granted = cc
 
-  by_place : (o : Option Mapped) (m : Mapped) → o ≡ Some m → answer_to (served purpose.Store address o) ≡ Ok tt → m.writable ≡ true
+  by_place : (o : Option Mapped) (m : Mapped) → o ≡ Some m → answer_to (served kind.Store address o) ≡ Ok tt → m.writable ≡ true
   by_place None m is granted = cc
   by_place (Some n) m is granted = let same : n ≡ m = cc in ap (λ (x : Mapped). x.writable) (sym same) ∙ by_writable n n.writable refl granted
 
-  granted_writable : (m : Mapped) → look (address / page_size) ≡ Some m → answer_to (reach look purpose.Store address) ≡ Ok tt → m.writable ≡ true
+  granted_writable : (m : Mapped) → look (address / page_size) ≡ Some m → answer_to (reach look kind.Store address) ≡ Ok tt → m.writable ≡ true
   granted_writable m is granted = grind (arith, common_steps, by_place)
 
 -- a store goes to where a VPN leads, which may be stored to, and into one page

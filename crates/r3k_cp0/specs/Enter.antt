@@ -1,10 +1,11 @@
 -- What entering and leaving an exception does to the registers of coprocessor 0.
-use Rattle.std.specs.Prelude.{ℕ, ◌+◌, ◌*◌, ◌/◌, ◌%◌, ◌^◌, Bool, not, ◌==◌, ◌&&◌, ◌||◌, nat_le, nat_lt, if◌then◌else◌}
+use Rattle.std.specs.Prelude.{ℕ, ◌+◌, ◌*◌, ◌/◌, ◌%◌, ◌^◌, Bool, not, ◌&&◌, nat_le, nat_lt, if◌then◌else◌}
 use Rattle.mips_exec.specs.declared.exception.Exc.{Exc}
 use Rattle.mips_exec.specs.declared.exception.ExcCode.{ExcCode}
 use Rattle.mips_exec.specs.declared.registers.Cpu.{Cpu}
 use Rattle.mips_exec.specs.Cpu.{restart_of}
-use Rattle.mips_exec.specs.Exception.{cause_word_of, number_of}
+use Rattle.mips_exec.specs.AccessKind.{user_end}
+use Rattle.mips_exec.specs.Exception.{cause_word_of, is_miss, number_of}
 use Rattle.r3k_cp0.specs.declared.registers.Cp0.{Cp0}
 
 -- the modes are pushed: bits 3:0 of Status move to 5:2, and 1:0 are cleared
@@ -21,10 +22,6 @@ is_of_address code = nat_le 1 (number_of code) && nat_le (number_of code) 5
 
 abbrev pub is_of_translation : ExcCode → Bool
 is_of_translation code = nat_le 1 (number_of code) && nat_le (number_of code) 3
-
--- a miss of the TLB: TLBL and TLBS
-abbrev pub is_miss : ExcCode → Bool
-is_miss code = number_of code == 2 || number_of code == 3
 
 -- EntryHi has the VPN of a bad address, and its own PID
 abbrev pub entry_hi_at : ℕ → ℕ → ℕ
@@ -57,4 +54,4 @@ left c = record c { status = status_left c.status }
 -- where an exception goes on: a miss of a user's address that no row fits has a vector of its own
 abbrev pub vector_of : Exc → Bool → ℕ
 vector_of exc is_fit =
-    if is_miss exc.code && nat_lt exc.bad 0x80000000 && not is_fit then 0x80000000 else 0x80000080
+    if is_miss exc.code && nat_lt exc.bad user_end && not is_fit then 0x80000000 else 0x80000080

@@ -17,7 +17,7 @@ use Rattle.mips_exec.specs.Step.{Answers, Trapped, access_after, accessed, answe
 use Rattle.mips_step.specs.WordStep.{SyscallsCall, fetched_step}
 use Rattle.r3k_tlb.specs.declared.row.Row.{Row}
 use Rattle.r3k_cp0.specs.declared.registers.Cp0.{Cp0}
-use Rattle.r3k_machine.specs.declared.translation.AccessKind.{AccessKind}
+use Rattle.mips_exec.specs.declared.access_kind.AccessKind.{AccessKind}
 use Rattle.r3k_machine.specs.declared.machine.Machine.{Machine}
 use Rattle.r3k_machine.specs.declared.entry.Entry.{Entry}
 use Rattle.r3k_machine.specs.declared.entry.Entry.TheVariants as entries

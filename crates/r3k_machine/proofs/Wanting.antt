@@ -15,7 +15,7 @@ use Rattle.mips_exec.specs.Step.{Answers, Called, Retired, Step, Trapped, access
 use Rattle.mips_step.specs.WordStep.{named_address}
 use Rattle.r3k_tlb.specs.declared.row.Row.{Row}
 use Rattle.r3k_cp0.specs.declared.registers.Cp0.{Cp0}
-use Rattle.r3k_cp0.specs.Enter.{is_miss}
+use Rattle.mips_exec.specs.Exception.{is_miss}
 use Rattle.r3k_machine.specs.declared.machine.Machine.{Machine}
 use Rattle.r3k_machine.specs.declared.machine.MachineEnd.TheVariants as ends
 use Rattle.r3k_machine.specs.Machine.{end_of, user_step}

@@ -1,10 +1,10 @@
--- A page that instructions are fetched from.
+-- A page that instructions are fetched from. For proofs: nobody has to believe it.
 use Rattle.std.specs.Prelude.{◌≡◌, ℕ, ◌+◌, ◌-◌, ◌%◌, ◌<◌, ◌==◌, Bool, List, length, Ok}
 use Rattle.aegis_limits.specs.Limits.{page_size}
 use Rattle.r3k_tlb.specs.declared.row.Row.{Row}
 use Rattle.r3k_cp0.specs.declared.registers.Cp0.{Cp0}
 use Rattle.r3k_machine.specs.declared.code.CodePage.{CodePage}
-use Rattle.r3k_machine.specs.declared.translation.AccessKind.TheVariants.{Fetch}
+use Rattle.mips_exec.specs.declared.access_kind.AccessKind.TheVariants.{Fetch}
 use Rattle.r3k_machine.specs.Translation.{page_by_mode}
 
 -- the address is that of a word in the page

@@ -1,10 +1,9 @@
 -- What the kernel does with the machine: it starts a user, and exceptions are entered and left.
-use Rattle.std.specs.Prelude.{ℕ, ◌+◌, ◌*◌, ◌/◌, ◌%◌, false, is_some}
-use Rattle.mips_exec.specs.declared.registers.Cpu.{Cpu}
+use Rattle.std.specs.Prelude.{ℕ, ◌+◌, ◌*◌, ◌/◌, ◌%◌, is_some}
 use Rattle.mips_exec.specs.declared.exception.Exc.{Exc}
 use Rattle.mips_exec.specs.declared.exception.ExcCode.TheVariants.{Int}
+use Rattle.mips_exec.specs.Cpu.{going_on_at}
 use Rattle.mips_exec.specs.Exception.{plain}
-use Rattle.mips_exec.specs.Word.{low_word}
 use Rattle.aegis_limits.specs.Limits.{page_size}
 use Rattle.r3k_tlb.specs.Rows.{first_fitting}
 use Rattle.r3k_cp0.specs.declared.registers.Cp0.{Cp0}
@@ -19,10 +18,6 @@ in_user_mode c = record c { status = c.status / 4 * 4 + 2 + c.status % 2 }
 -- the machine that runs this process in user mode
 abbrev pub as_user : Machine → ℕ → Machine
 as_user m pid = record m { cp0 = in_user_mode (with_pid m.cp0 pid) }
-
--- the registers that go on at an address, out of a delay slot
-abbrev pub going_on_at : Cpu → ℕ → Cpu
-going_on_at cpu address = record cpu { pc = address; next = low_word (address + 4); slot = false }
 
 -- the machine once it has entered an exception
 abbrev pub in_exception : Machine → Exc → Machine

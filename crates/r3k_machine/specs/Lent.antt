@@ -1,4 +1,4 @@
--- Physical memory and the rows, lent for the machine's accesses.
+-- Physical memory and the rows, lent for the machine's accesses. For proofs: nobody has to believe it.
 use Rattle.std.specs.Prelude.{◌≡◌, ℕ, List, Some}
 use Rattle.r3k_machine.specs.declared.bus.RowBus.{RowBus}
 use Rattle.r3k_machine.specs.Memory.{frames_written}

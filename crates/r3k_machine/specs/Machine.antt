@@ -9,14 +9,14 @@ use Rattle.aegis_limits.specs.Limits.{page_size}
 use Rattle.r3k_tlb.specs.declared.row.Row.{Row}
 use Rattle.r3k_tlb.specs.Rows.{emptied_rows, first_fitting}
 use Rattle.r3k_cp0.specs.declared.registers.Cp0.{Cp0}
-use Rattle.r3k_cp0.specs.Enter.{is_miss}
+use Rattle.mips_exec.specs.Exception.{is_miss}
 use Rattle.r3k_cp0.specs.Random.{fallen_times}
 use Rattle.r3k_cp0.specs.Registers.{blank_cp0, current_pid}
 use Rattle.r3k_machine.specs.declared.machine.Machine.{Machine}
 use Rattle.r3k_machine.specs.declared.machine.MachineEnd.{MachineEnd}
 use Rattle.r3k_machine.specs.declared.machine.MachineEnd.TheVariants as ends
 use Rattle.r3k_machine.specs.Memory.{row_step}
-use Rattle.r3k_machine.specs.Translation.{user_end}
+use Rattle.mips_exec.specs.AccessKind.{user_end}
 
 -- the machine in which nothing has run
 abbrev pub blank_machine : Machine

@@ -8,7 +8,7 @@ use Rattle.aegis_limits.specs.Limits.{page_size}
 use Rattle.byteorder.specs.Endian.{little_number}
 use Rattle.frame_store.specs.Pages.{after_put, page_at}
 use Rattle.r3k_tlb.specs.declared.row.Row.{Row}
-use Rattle.r3k_machine.specs.declared.translation.AccessKind.TheVariants.{Fetch, Load, Store}
+use Rattle.mips_exec.specs.declared.access_kind.AccessKind.TheVariants.{Fetch, Load, Store}
 use Rattle.r3k_cp0.specs.declared.registers.Cp0.{Cp0}
 use Rattle.r3k_machine.specs.Translation.{reached_page}
 

@@ -22,7 +22,8 @@ pub record IsRun (old new : Machine) (before now : List (List ℕ)) (asked : ℕ
   pub most : steps.made ≤ asked
   pub stop : steps.made < asked → has_retired (user_step new now) ≡ false
   pub wanted : steps.wanted ≡ wanted_behind steps.made asked new.cp0 new.tlb (running_on new now)
-  pub missed : (exc : Exc) → steps.made < asked → end_of new.cp0 new.tlb (outcome_of (user_step new now)) ≡ ends.Refill exc
+  pub missed : (exc : Exc) → steps.made < asked
+      → end_of new.cp0 new.tlb (outcome_of (user_step new now)) ≡ ends.Refill exc
       → steps.wanted ≡ Some exc.bad
   pub entry : steps.entry ≡ next_entry steps.made asked (user_step new now)
   pub came : IfSome steps.entry (λ e. user_step new now ≡ came_by e)

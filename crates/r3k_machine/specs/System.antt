@@ -20,7 +20,7 @@ use Rattle.r3k_cp0.specs.Enter.{left}
 use Rattle.r3k_cp0.specs.Registers.{cp0_reg, current_pid, index_row, is_user, probe_word, with_cp0_reg}
 use Rattle.r3k_machine.specs.declared.machine.Machine.{Machine}
 use Rattle.r3k_machine.specs.Machine.{after_attempts, user_step}
-use Rattle.r3k_machine.specs.Memory.{frames_written, row_answers, row_step}
+use Rattle.r3k_machine.specs.Memory.{frames_written, row_answers}
 
 -- ---- the instructions of coprocessor 0
 
@@ -79,17 +79,23 @@ system_outcome None = outcome.Trap (plain Ri)
 abbrev pub system_step : Machine → List (List ℕ) → Option Machine → MachineStep
 system_step m frames done = record { machine = system_machine m done; frames = frames; outcome = system_outcome done }
 
--- in kernel mode, by the word that is fetched
-abbrev pub kernel_step : Machine → List (List ℕ) → Result ℕ Exc → MachineStep
-kernel_step m frames (Ok word) =
-    if opcode_of word == 16 then system_step m frames (system_effect (insn_of word) m)
-    else table_step m frames (row_step m.cp0 m.tlb frames m.cpu)
-kernel_step m frames (Err exc) = table_step m frames (row_step m.cp0 m.tlb frames m.cpu)
+-- the word of coprocessor 0's opcode that was fetched, if it is one
+abbrev pub system_word_in : Result ℕ Exc → Option ℕ
+system_word_in (Ok word) = if opcode_of word == 16 then Some word else None
+system_word_in (Err exc) = None
+
+-- that of the next step, in kernel mode; in user mode there is none
+abbrev pub system_word : Machine → List (List ℕ) → Option ℕ
+system_word m frames =
+    if is_user m.cp0 then None else system_word_in (fetched (row_answers m.cp0 m.tlb frames) m.cpu.pc)
+
+-- Such a word's step is that of coprocessor 0, and each other step is that of the instruction table.
+abbrev pub step_by : Machine → List (List ℕ) → Option ℕ → MachineStep
+step_by m frames (Some word) = system_step m frames (system_effect (insn_of word) m)
+step_by m frames None = table_step m frames (user_step m frames)
 
 abbrev pub machine_step : Machine → List (List ℕ) → MachineStep
-machine_step m frames =
-    if is_user m.cp0 then table_step m frames (row_step m.cp0 m.tlb frames m.cpu)
-    else kernel_step m frames (fetched (row_answers m.cp0 m.tlb frames) m.cpu.pc)
+machine_step m frames = step_by m frames (system_word m frames)
 
 -- Random has fallen, as after each attempted step
 abbrev pub with_random_fallen : Machine → Machine

@@ -1,52 +1,29 @@
 -- Where an address leads in physical memory, by the rows of the TLB and the mode.
-use Rattle.std.specs.Prelude.{ℕ, ◌/◌, ◌%◌, Bool, true, false, not, ◌&&◌, nat_le, nat_lt, if◌then◌else◌, List, Option, Some, None, Result, Ok, Err}
+use Rattle.std.specs.Prelude.{ℕ, ◌/◌, ◌%◌, not, ◌&&◌, nat_lt, if◌then◌else◌, List, Option, Some, None, Result, Ok, Err}
+use Rattle.mips_exec.specs.declared.access_kind.AccessKind.{AccessKind}
 use Rattle.mips_exec.specs.declared.exception.Exc.{Exc}
-use Rattle.mips_exec.specs.declared.exception.ExcCode.{ExcCode}
 use Rattle.mips_exec.specs.declared.exception.ExcCode.TheVariants as code
-use Rattle.mips_exec.specs.Exception.{at_address, plain}
+use Rattle.mips_exec.specs.AccessKind.{address_error, bus_error, is_store, miss, raised, user_end}
 use Rattle.aegis_limits.specs.Limits.{page_size}
 use Rattle.r3k_tlb.specs.declared.row.Row.{Row}
 use Rattle.r3k_tlb.specs.Row.{is_dirty, is_valid, row_page}
 use Rattle.r3k_tlb.specs.Rows.{first_fitting}
-use Rattle.r3k_machine.specs.declared.translation.AccessKind.{AccessKind}
-use Rattle.r3k_machine.specs.declared.translation.AccessKind.TheVariants.{Fetch, Load, Store}
 use Rattle.r3k_cp0.specs.declared.registers.Cp0.{Cp0}
 use Rattle.r3k_cp0.specs.Registers.{current_pid, is_user}
 
--- what an address raises that users may not name
-abbrev pub address_error : AccessKind → ExcCode
-address_error Fetch = code.Adel
-address_error Load = code.Adel
-address_error Store = code.Ades
+-- the segments of the address space: the users' addresses; the kernel's that go by no row; and its others
+pub data Segment : Type 0 where
+  Users : Segment
+  Direct : Segment
+  High : Segment
 
--- what an address raises that has no row, or one that isn't valid
-abbrev pub miss : AccessKind → ExcCode
-miss Fetch = code.Tlbl
-miss Load = code.Tlbl
-miss Store = code.Tlbs
-
--- what an address raises whose page physical memory hasn't got
-abbrev pub bus_error : AccessKind → ExcCode
-bus_error Fetch = code.Ibe
-bus_error Load = code.Dbe
-bus_error Store = code.Dbe
-
-abbrev pub is_store : AccessKind → Bool
-is_store Fetch = false
-is_store Load = false
-is_store Store = true
-
-abbrev pub raised : {A : Type 0} → ExcCode → ℕ → Result A Exc
-raised c address = Err (at_address (plain c) address)
-
--- users name the addresses below this one
-abbrev pub user_end : ℕ
-user_end = 0x80000000
-
--- the kernel's addresses from the users' end to this one go by no row: they are physical, modulo 0x20000000
 abbrev pub direct_end : ℕ
 direct_end = 0xC0000000
 
+abbrev pub segment_of : ℕ → Segment
+segment_of address = if nat_lt address user_end then Users else (if nat_lt address direct_end then Direct else High)
+
+-- addresses that go by no row are physical, modulo this
 abbrev pub direct_size : ℕ
 direct_size = 0x20000000
 
@@ -57,12 +34,23 @@ page_by_row kind address (Some row) =
     if not (is_valid row) then raised (miss kind) address
     else (if is_store kind && not (is_dirty row) then raised code.Mod address else Ok (row_page row))
 
+-- the page of an access, by the segment of its address: in user mode, and in kernel mode; with the page by the row
+abbrev pub user_page : AccessKind → ℕ → Result ℕ Exc → Segment → Result ℕ Exc
+user_page kind address by_row Users = by_row
+user_page kind address by_row Direct = raised (address_error kind) address
+user_page kind address by_row High = raised (address_error kind) address
+
+abbrev pub kernel_page : ℕ → Result ℕ Exc → Segment → Result ℕ Exc
+kernel_page address by_row Users = by_row
+kernel_page address by_row Direct = Ok (address % direct_size / page_size)
+kernel_page address by_row High = by_row
+
 -- the page of an access
 abbrev pub page_by_mode : Cp0 → List Row → AccessKind → ℕ → Result ℕ Exc
 page_by_mode cp0 rows kind address =
-    if nat_le user_end address && is_user cp0 then raised (address_error kind) address
-    else (if nat_le user_end address && nat_lt address direct_end then Ok (address % direct_size / page_size)
-    else page_by_row kind address (first_fitting (address / page_size) (current_pid cp0) rows))
+    let by_row = page_by_row kind address (first_fitting (address / page_size) (current_pid cp0) rows) in
+    if is_user cp0 then user_page kind address by_row (segment_of address)
+    else kernel_page address by_row (segment_of address)
 
 -- a page is reached where there are more pages of physical memory than its number
 abbrev pub if_there : ℕ → AccessKind → ℕ → Result ℕ Exc → Result ℕ Exc

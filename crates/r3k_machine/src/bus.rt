@@ -1,13 +1,11 @@
 //! Physical memory as the processor sees it through the TLB.
-ghost use Rattle.std.specs.Prelude.{◌≡◌, ◌≢◌, ◌+◌, ◌%◌, ◌<◌, ◌≤◌, drop, length};
-ghost use Rattle.aegis_limits.specs.Limits.{page_size};
-ghost use Rattle.byteorder.specs.Endian.{little_number};
-ghost use Rattle.frame_store.specs.Pages.{page_at};
 
-use crate::translation::{AccessKind, PAGE_BYTES, reached_page};
+use crate::translation::reached_page;
+use aegis_limits::PAGE_BYTES;
+use byte_numbers::number_at;
 use byteorder::{ByteOrder, LittleEndian};
 use frame_store::Frames;
-use mips_exec::Exc;
+use mips_exec::{AccessKind, Exc};
 use mips_step::Bus;
 use r3k_cp0::Cp0;
 use r3k_tlb::Tlb;
@@ -43,14 +41,14 @@ impl Bus for RowBus<'_> {
     #[inline(always)]
     fn fetch(&mut self, va: u32) -> Result<u32, Exc> {
         let page = reached_page(self.frames, self.tlb, self.cp0, AccessKind::Fetch, va)?;
-        Ok(LittleEndian::read_u32(bytes_from(self.frames, page, va)))
+        Ok(LittleEndian::read_u32(self.frames.bytes_from(page, va)))
     }
 
     #[tactic(auto, unfolding(crate::specs::Memory::row_answers))]
     #[inline(always)]
     fn load(&mut self, va: u32, width: u8) -> Result<u32, Exc> {
         let page = reached_page(self.frames, self.tlb, self.cp0, AccessKind::Load, va)?;
-        Ok(number_at(bytes_from(self.frames, page, va), width))
+        Ok(number_at(self.frames.bytes_from(page, va), width))
     }
 
     #[tactic(auto, unfolding(crate::specs::Memory::row_answers, crate::specs::Memory::frames_written))]
@@ -61,32 +59,5 @@ impl Bus for RowBus<'_> {
         self.frames
             .put(page, va % PAGE_BYTES, &bytes[..usize::from(width)]);
         Ok(())
-    }
-}
-
-/// The bytes of a page of physical memory from an address on.
-#[inline(always)]
-pub(crate) fn bytes_from(frames: &Frames, page: u32, va: u32) -> &[u8]
-    requires { page < length frames.now }
-    ensures bytes { result.now ≡ drop (va % page_size) (page_at frames.now page) }
-    ensures rest { length result.now + va % page_size ≡ page_size }
-{
-    let bytes = frames.page(page);
-    &bytes[(va % PAGE_BYTES) as usize..]
-}
-
-/// The number that the first `width` bytes spell, the lowest first.
-#[inline(always)]
-fn number_at(bytes: &[u8], width: u8) -> u32
-    requires some { 0 < width }
-    requires whole { width ≢ 3 }
-    requires within { width ≤ length bytes.now }
-    requires word { width ≤ 4 }
-    ensures { result ≡ little_number width bytes.now }
-{
-    match width {
-        1 => u32::from(bytes[0]),
-        2 => u32::from(LittleEndian::read_u16(bytes)),
-        _ => LittleEndian::read_u32(bytes),
     }
 }

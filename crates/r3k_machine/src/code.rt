@@ -5,8 +5,10 @@ ghost use Rattle.mips_exec.specs.Step.{fetched};
 ghost use Rattle.r3k_machine.specs.Code.{IsCode, has};
 ghost use Rattle.r3k_machine.specs.Memory.{row_answers};
 
-use crate::translation::{AccessKind, PAGE_BYTES, reached_page};
+use crate::translation::reached_page;
+use aegis_limits::PAGE_BYTES;
 use frame_store::Frames;
+use mips_exec::AccessKind;
 use r3k_cp0::Cp0;
 use r3k_tlb::Tlb;
 

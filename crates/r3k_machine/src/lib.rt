@@ -14,4 +14,3 @@ pub use entry::Entry;
 pub use laws::law_retired_steps;
 pub use machine::{Machine, MachineEnd};
 pub use run::Steps;
-pub use translation::AccessKind;

@@ -17,9 +17,9 @@ use crate::bus::RowBus;
 use crate::code::CodePage;
 use crate::entry::{Entry, entry_by};
 use crate::run::{Steps, run_rows};
-use crate::translation::{PAGE_BYTES, USER_END};
+use aegis_limits::PAGE_BYTES;
 use frame_store::Frames;
-use mips_exec::{Cpu, Exc, ExcCode, Outcome};
+use mips_exec::{Cpu, Exc, ExcCode, Outcome, USER_END};
 use mips_step::{law_syscalls_call, step_user};
 use r3k_cp0::{Cp0, exception_vector};
 use r3k_tlb::Tlb;
@@ -162,10 +162,9 @@ impl Machine {
         ensures frames { frames.new ≡ (machine_step self.old frames.old).frames }
         ensures size { length frames.new ≡ length frames.old }
     {
-        let outcome = if self.cp0.is_user() {
-            self.table_step(frames)
-        } else {
-            self.kernel_step(frames)
+        let outcome = match self.system_word(frames) {
+            Some(word) => self.system_step(word),
+            None => self.table_step(frames),
         };
         self.end_step(outcome)
     }
@@ -199,9 +198,7 @@ impl Machine {
     {
         let vector = exception_vector(exc, self.has_row(exc.bad));
         self.cp0.enter(exc, &self.cpu);
-        self.cpu.pc = vector;
-        self.cpu.next = vector.wrapping_add(4);
-        self.cpu.slot = false;
+        self.cpu.go_on_at(vector);
     }
 
     /// Enters an interrupt.

@@ -1,20 +1,20 @@
 //! The instructions of coprocessor 0, which run in kernel mode.
-ghost use Rattle.std.specs.Prelude.{◌≡◌, ◌<◌, is_some, length};
+ghost use Rattle.std.specs.Prelude.{◌≡◌, ◌<◌, is_some};
 ghost use Rattle.std.specs.Option.{unwrap_or};
 ghost use Rattle.mips_isa.specs.Encoding.{insn_of};
 ghost use Rattle.mips_exec.specs.Step.{fetched};
 ghost use Rattle.r3k_tlb.specs.Rows.{row_at, row_count};
 ghost use Rattle.r3k_cp0.specs.Registers.{index_row};
 ghost use Rattle.r3k_machine.specs.Memory.{row_answers};
-ghost use Rattle.r3k_machine.specs.System.{kernel_step, probed, system_effect, system_machine, system_outcome, with_entry, with_row_written};
+ghost use Rattle.r3k_machine.specs.System.{probed, system_effect, system_machine, system_outcome, system_word, with_entry, with_row_written};
 
-use crate::bus::bytes_from;
 use crate::machine::Machine;
-use crate::translation::{AccessKind, PAGE_BYTES, reached_page};
+use crate::translation::reached_page;
+use aegis_limits::PAGE_BYTES;
 use byteorder::{ByteOrder, LittleEndian};
 use frame_store::Frames;
 use mips_codec::{COP0, decode, opcode};
-use mips_exec::{Exc, ExcCode, Outcome};
+use mips_exec::{AccessKind, Exc, ExcCode, Outcome};
 use mips_isa::Insn;
 
 impl Machine {
@@ -28,7 +28,7 @@ impl Machine {
             return Err(Exc::plain(ExcCode::Adel));
         }
         let page = reached_page(frames, &self.tlb, &self.cp0, AccessKind::Fetch, pc)?;
-        Ok(LittleEndian::read_u32(bytes_from(frames, page, pc)))
+        Ok(LittleEndian::read_u32(frames.bytes_from(page, pc)))
     }
 
     /// EntryHi and EntryLo take the words of the row that Index names.
@@ -90,7 +90,7 @@ impl Machine {
     }
 
     /// The step of a word of coprocessor 0's opcode.
-    fn system_step(&mut self, word: u32) -> Outcome
+    pub(crate) fn system_step(&mut self, word: u32) -> Outcome
         ensures machine { self.new ≡ system_machine self.old (system_effect (insn_of word) self.old) }
         ensures outcome { result ≡ system_outcome (system_effect (insn_of word) self.old) }
     {
@@ -101,16 +101,16 @@ impl Machine {
         Outcome::Retired
     }
 
-    /// A step in kernel mode, but for the fall of Random.
-    pub(crate) fn kernel_step(&mut self, frames: &mut Frames) -> Outcome
-        ensures machine { self.new ≡ (kernel_step self.old frames.old (fetched (row_answers self.old.cp0 self.old.tlb frames.old) self.old.cpu.pc)).machine }
-        ensures frames { frames.new ≡ (kernel_step self.old frames.old (fetched (row_answers self.old.cp0 self.old.tlb frames.old) self.old.cpu.pc)).frames }
-        ensures outcome { result ≡ (kernel_step self.old frames.old (fetched (row_answers self.old.cp0 self.old.tlb frames.old) self.old.cpu.pc)).outcome }
-        ensures size { length frames.new ≡ length frames.old }
+    /// The word of coprocessor 0's opcode that the next step runs in kernel mode, if it is one.
+    pub(crate) fn system_word(&self, frames: &Frames) -> Option<u32>
+        ensures { result ≡ system_word self.now frames.now }
     {
+        if self.cp0.is_user() {
+            return None;
+        }
         match self.fetched(frames) {
-            Ok(word) if opcode(word) == COP0 => self.system_step(word),
-            _ => self.table_step(frames),
+            Ok(word) if opcode(word) == COP0 => Some(word),
+            _ => None,
         }
     }
 }

@@ -1,78 +1,18 @@
 //! Where an address leads in physical memory, by the rows of the TLB and the mode.
 ghost use Rattle.std.specs.Prelude.{◌≡◌, ◌<◌, IfOk, length};
-ghost use Rattle.r3k_machine.specs.Translation.{address_error, bus_error, is_store, miss, page_by_row, page_by_mode, reached_page};
+ghost use Rattle.r3k_machine.specs.Translation.{page_by_row, page_by_mode, reached_page};
 
-use aegis_limits::PAGE_SIZE;
+use aegis_limits::PAGE_BYTES;
 use frame_store::Frames;
-use mips_exec::{Exc, ExcCode};
+use mips_exec::{AccessKind, Exc, ExcCode, USER_END};
 use r3k_cp0::Cp0;
 use r3k_tlb::{Row, Tlb};
-
-/// The bytes of a page, as a difference of addresses.
-pub(crate) const PAGE_BYTES: u32 = PAGE_SIZE as u32;
-
-/// Users name the addresses below this one.
-pub(crate) const USER_END: u32 = 0x8000_0000;
 
 /// The kernel's addresses from the users' end to this one go by no row.
 const DIRECT_END: u32 = 0xc000_0000;
 
 /// They are physical modulo this.
 const DIRECT_SIZE: u32 = 0x2000_0000;
-
-/// What memory is asked for.
-#[derive(Clone, Copy)]
-pub enum AccessKind {
-    /// The instruction to run.
-    Fetch,
-    /// Bytes for a register.
-    Load,
-    /// To take bytes of a register.
-    Store,
-}
-
-impl AccessKind {
-    /// Whether it is a store.
-    #[inline(always)]
-    fn is_store(self) -> bool
-        ensures { result ≡ is_store self }
-    {
-        matches!(self, AccessKind::Store)
-    }
-
-    /// What an address raises that users may not name.
-    #[inline(always)]
-    fn address_error(self) -> ExcCode
-        ensures { result ≡ address_error self }
-    {
-        match self {
-            AccessKind::Fetch | AccessKind::Load => ExcCode::Adel,
-            AccessKind::Store => ExcCode::Ades,
-        }
-    }
-
-    /// What an address raises that has no row, or one that isn't valid.
-    #[inline(always)]
-    fn miss(self) -> ExcCode
-        ensures { result ≡ miss self }
-    {
-        match self {
-            AccessKind::Fetch | AccessKind::Load => ExcCode::Tlbl,
-            AccessKind::Store => ExcCode::Tlbs,
-        }
-    }
-
-    /// What an address raises whose page physical memory hasn't got.
-    #[inline(always)]
-    fn bus_error(self) -> ExcCode
-        ensures { result ≡ bus_error self }
-    {
-        match self {
-            AccessKind::Fetch => ExcCode::Ibe,
-            AccessKind::Load | AccessKind::Store => ExcCode::Dbe,
-        }
-    }
-}
 
 /// The page of an access by its row. V is asked before D, and N isn't asked.
 #[inline(always)]

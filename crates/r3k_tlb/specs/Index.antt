@@ -1,4 +1,4 @@
--- The index of the rows by their first words.
+-- The index of the rows by their first words. For proofs: nobody has to believe it.
 use Rattle.std.specs.Prelude.{◌≡◌, ◌≢◌, ℕ, ◌*◌, ◌/◌, ◌%◌, ◌^◌, ◌<◌, Bool, true, ◌==◌, ◌&&◌, nat_lt, if◌then◌else◌, List, length, slice_index}
 use Rattle.std.specs.Int.{bit_at}
 use Rattle.r3k_tlb.specs.declared.row.Row.{Row}

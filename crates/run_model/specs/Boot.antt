@@ -13,7 +13,7 @@ use Rattle.page_book.specs.declared.row.PageRow.{PageRow}
 use Rattle.page_book.specs.declared.row.PageRow.TheVariants.{Free, Guaranteed}
 use Rattle.page_book.specs.Rows.{lowest_free}
 use Rattle.kernel_journal.specs.declared.row.Row.{Row}
-use Rattle.world_model.specs.declared.slot.Hold.{Hold}
+use Rattle.world_model.specs.declared.hold.Hold.{Hold}
 use Rattle.world_model.specs.Table.{listed, set_at}
 use Rattle.world_model.specs.SlotCalls.{slot_row}
 use Rattle.world_model.specs.Book.{Book, own_hold}

@@ -15,7 +15,7 @@ use Rattle.bind_book.specs.Stripe.{is_bound}
 use Rattle.world_model.specs.declared.call.Call.{Call}
 use Rattle.world_model.specs.declared.call.Deed.TheVariants.{Allocates, Binds, Frees, Gives, Recaps, Transfers}
 use Rattle.world_model.specs.declared.life.Cause.{Cause}
-use Rattle.world_model.specs.declared.slot.Hold.{Hold}
+use Rattle.world_model.specs.declared.hold.Hold.{Hold}
 use Rattle.world_model.specs.declared.slot.Phase.{Phase}
 use Rattle.world_model.specs.declared.slot.Phase.TheVariants as phase
 use Rattle.world_model.specs.declared.slot.Runner.{Runner}

@@ -1,7 +1,7 @@
 -- What the next turn is, without a search.
 use Rattle.std.specs.Prelude.{ℕ, ◌≡◌, ◌≤◌, ◌<◌, ◌+◌, ◌%◌, Option, None, Some}
 use Rattle.std.specs.Option.{option_map}
-use Rattle.world_model.specs.declared.slot.Hold.{Hold}
+use Rattle.world_model.specs.declared.hold.Hold.{Hold}
 use Rattle.world_model.specs.declared.slot.Turn.{Turn}
 use Rattle.world_model.specs.Book.{Book}
 

@@ -1,4 +1,4 @@
--- What is lent for the accesses of a handler.
+-- What is lent for the accesses of a handler. For proofs: nobody has to believe it.
 use Rattle.std.specs.Prelude.{◌≡◌, ℕ, List}
 use Rattle.safe_handler.specs.declared.lent.HandlerBus.{HandlerBus}
 use Rattle.handler_rules.specs.Memory.{stored}

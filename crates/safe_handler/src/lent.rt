@@ -1,12 +1,11 @@
 //! A handler's memory as the processor sees it.
-ghost use Rattle.std.specs.Prelude.{◌≡◌, ◌≢◌, ◌<◌, ◌≤◌, length};
-ghost use Rattle.byteorder.specs.Endian.{little_number};
+ghost use Rattle.std.specs.Prelude.{◌≡◌};
 ghost use Rattle.mips_exec.specs.Step.{cpu_after, outcome_of, step_of, view_of, write_after};
 ghost use Rattle.handler_rules.specs.Memory.{answers_of, page_after};
 
 use crate::memory::{PAGE_START, bytes_at, readable_at};
 use aegis_limits::PAGE_SIZE;
-use byteorder::{ByteOrder, LittleEndian};
+use byte_numbers::number_at;
 use mips_exec::{Cpu, Exc, ExcCode, Outcome};
 use mips_step::{Bus, step_user};
 
@@ -46,7 +45,7 @@ impl Bus for HandlerBus<'_> {
 
     fn load(&mut self, va: u32, width: u8) -> Result<u32, Exc> {
         match readable_at(self.packet, &self.page[..], va, u32::from(width)) {
-            Some(bytes) => Ok(number_of(bytes)),
+            Some(bytes) => Ok(number_at(bytes, width)),
             None => Err(Exc::plain(ExcCode::Dbe)),
         }
     }
@@ -61,20 +60,6 @@ impl Bus for HandlerBus<'_> {
         let page = &mut self.page[..];
         page[place..place + width].copy_from_slice(&bytes[..width]);
         Ok(())
-    }
-}
-
-/// The number that 1, 2 or 4 bytes spell, the lowest first.
-fn number_of(bytes: &[u8]) -> u32
-    requires some { 0 < length bytes.now }
-    requires whole { length bytes.now ≢ 3 }
-    requires word { length bytes.now ≤ 4 }
-    ensures { result ≡ little_number (length bytes.now) bytes.now }
-{
-    match bytes.len() {
-        1 => u32::from(bytes[0]),
-        2 => u32::from(LittleEndian::read_u16(bytes)),
-        _ => LittleEndian::read_u32(bytes),
     }
 }
 

@@ -23,13 +23,14 @@ use Rattle.mips_exec.specs.declared.exception.ExcCode.TheVariants.{Adel}
 use Rattle.mips_exec.specs.Exception.{at_address, plain}
 use Rattle.mips_exec.specs.Step.{Trapped, access_after, cpu_after, decoded, fetched}
 use Rattle.revocation_book.specs.declared.revocation.Taking.{Taking}
-use Rattle.world_model.specs.declared.access.Purpose.TheVariants as purpose
+use Rattle.mips_exec.specs.declared.access_kind.AccessKind.TheVariants as kind
 use Rattle.world_model.specs.declared.call.Call.{Call}
 use Rattle.world_model.specs.declared.life.Cause.{Cause}
 use Rattle.world_model.specs.declared.life.Cause.TheVariants as cause
 use Rattle.world_model.specs.declared.verdict.Verdict.{Verdict}
 use Rattle.world_model.specs.Item.{Item, Boot, Step, Start, End, Transfer, Killed, Answer, Lost, Left, Packet, Line, Asked, Taken, absorb, absorb_all, absorbed}
-use Rattle.world_model.specs.Page.{KeptPage, Mapped, address_error, answers_by, if_served, miss, raised, reach, read_answer, served, user_end}
+use Rattle.mips_exec.specs.AccessKind.{address_error, miss, raised, user_end}
+use Rattle.world_model.specs.Page.{KeptPage, Mapped, answers_by, if_served, reach, read_answer, served}
 use Rattle.world_model.specs.Post.{counted, post_word, with_post}
 use Rattle.world_model.specs.Repossession.{copied, recorded}
 use Rattle.world_model.specs.Rings.{Reception, Loses, Queues, Handles, page_store, reception, after_reception, after_packet_in, ring_of}
@@ -56,16 +57,16 @@ module _ (s : Solo) (bare : IsBare s) where
   sees_nothing vpn =
       ap (option_map (mapped s)) (λ k. option_or (option_map (place_at vpn) (kept_at (bare.0 k) vpn)) (option_map bound_place (of_number vpn (bare.1 (row_of s.version vpn) k))))
 
-  missed : {A : Type 0} (f : Mapped → A) (address : ℕ) → (exc : Exc) × (if_served f (reach (sight s) purpose.Fetch address) ≡ Err exc)
+  missed : {A : Type 0} (f : Mapped → A) (address : ℕ) → (exc : Exc) × (if_served f (reach (sight s) kind.Fetch address) ≡ Err exc)
   missed f address =
-      either (λ (r : Result Mapped Exc). (exc : Exc) × (if_served f r ≡ Err exc)) (nat_le user_end address) (Err (raised (address_error purpose.Fetch) address)) (served purpose.Fetch address (sight s (address / page_size)))
-      (raised (address_error purpose.Fetch) address, refl)
-      (raised (miss purpose.Fetch) address, ap (λ (o : Option Mapped). if_served f (served purpose.Fetch address o)) (sees_nothing (address / page_size)))
+      either (λ (r : Result Mapped Exc). (exc : Exc) × (if_served f r ≡ Err exc)) (nat_le user_end address) (raised (address_error kind.Fetch) address) (served kind.Fetch address (sight s (address / page_size)))
+      (at_address (plain (address_error kind.Fetch)) address, refl)
+      (at_address (plain (miss kind.Fetch)) address, ap (λ (o : Option Mapped). if_served f (served kind.Fetch address o)) (sees_nothing (address / page_size)))
 
   refused : (exc : Exc) × (fetched (answers_by (sight s)) s.cpu.pc ≡ Err exc)
   refused =
       let pc = s.cpu.pc in
-      either (λ (r : Result ℕ Exc). (exc : Exc) × (r ≡ Err exc)) (pc % 4 == 0) (read_answer purpose.Fetch (sight s) pc 4) (Err (plain Adel)) (missed _ pc) (plain Adel, refl)
+      either (λ (r : Result ℕ Exc). (exc : Exc) × (r ≡ Err exc)) (pc % 4 == 0) (read_answer kind.Fetch (sight s) pc 4) (Err (plain Adel)) (missed _ pc) (plain Adel, refl)
 
   traps : (exc : Exc) × (step_alone s ≡ Trapped exc)
   traps =

@@ -1,7 +1,7 @@
 -- What the holders owe, and how a forfeit lowers it.
 use Rattle.std.proofs.Common.{arith, ap, ◌∙◌, ◌≡◌, ◌≢◌, ◌<◌, ℕ, List, length, Option, Some, slice_set}
 use Rattle.std.proofs.lemmas.Grind.{common_steps}
-use Rattle.world_model.specs.declared.slot.Hold.{Hold}
+use Rattle.world_model.specs.declared.hold.Hold.{Hold}
 use Rattle.world_model.specs.declared.slot.Turn.{Turn}
 use Rattle.world_model.specs.Table.{set_at}
 use Rattle.world_model.specs.Book.{first_turn, excess_after_forfeit, owed}

@@ -1,12 +1,12 @@
 //! Which slots an environment may take, drop or hand on, what becomes of one, and who runs after a gift or a death.
 ghost use Rattle.std.specs.Option.{option_map};
 ghost use Rattle.std.specs.Prelude.{◌≡◌, ◌<◌, All, IsSome, None, if◌then◌else◌, length, slice_get, slice_set};
-ghost use Rattle.world_model.specs.SlotCalls.{dropped, gift_refusal, handed, held_by, holds};
+ghost use Rattle.world_model.specs.SlotCalls.{dropped, gift_refusal, handed, held_by};
 ghost use Rattle.world_model.specs.Book.{is_runner};
 ghost use Rattle.slot_vector.specs.Slices.{IsNumbered, RunsByNumber};
 ghost use Rattle.aegis_limits.specs.Limits.{environment_numbers};
 
-use crate::search::{Row, own_hold};
+use crate::search::Row;
 use world_model::{Code, Hold, Phase, Runner};
 
 /// The slot at this place, where there is one.
@@ -22,21 +22,7 @@ pub(crate) fn dropped(slot: Option<Hold>, env: u8) -> Option<Hold>
     ensures hold { result ≡ dropped env slot }
     ensures numbered { IsNumbered slot → IsNumbered result }
 {
-    let hold = slot?;
-    if hold.owner == env {
-        return None;
-    }
-    own_hold(Some(hold.owner))
-}
-
-/// Whether the environment holds the slot.
-fn holds(slot: Option<Hold>, env: u8) -> bool
-    ensures { result ≡ holds env slot }
-{
-    match slot {
-        Some(hold) => hold.holder == env,
-        None => false,
-    }
+    slot?.dropped_by(env)
 }
 
 /// Why a runner can't hand on the slice that it runs, or for a later its slot: `NoSlice` in time of grace, and
@@ -47,7 +33,9 @@ pub(crate) fn gift_refusal(later: bool, runner: Option<Runner>, slot: Option<Hol
     let runner = runner?;
     match runner.phase {
         Phase::Grace => Some(Code::NoSlice),
-        Phase::Own if later && !holds(slot, runner.env) => Some(Code::NotHolder),
+        Phase::Own if later && !slot.is_some_and(|hold| hold.is_held_by(runner.env)) => Some(
+            Code::NotHolder,
+        ),
         Phase::Own => None,
     }
 }
@@ -57,11 +45,7 @@ pub(crate) fn held_by(slot: Option<Hold>, env: u8) -> Option<Hold>
     ensures hold { result ≡ option_map (held_by env) slot }
     ensures numbered { IsNumbered slot → env < environment_numbers → IsNumbered result }
 {
-    let hold = slot?;
-    Some(Hold {
-        holder: env,
-        ..hold
-    })
+    Some(slot?.held_by(env))
 }
 
 /// The slot has this hold now.

@@ -53,20 +53,9 @@ pub(crate) fn own_holds(owners: &[Option<u8>]) -> Row
 {
     let mut slots = ArrayVec::new();
     for owner in owners {
-        slots.push(own_hold(*owner));
+        slots.push(owner.map(Hold::own));
     }
     slots
-}
-
-/// A slot that its owner holds itself.
-pub(crate) fn own_hold(owner: Option<u8>) -> Option<Hold>
-    ensures { result ≡ option_map own_hold owner }
-{
-    let env = owner?;
-    Some(Hold {
-        owner: env,
-        holder: env,
-    })
 }
 
 /// 1 where the environment owns or holds the slot, else 0.
@@ -75,7 +64,7 @@ fn part_bit(slot: Option<Hold>, env: u8) -> u64
     ensures most { result ≤ 1 }
 {
     match slot {
-        Some(hold) if hold.owner == env || hold.holder == env => 1,
+        Some(hold) if hold.has_part(env) => 1,
         _ => 0,
     }
 }
@@ -98,14 +87,7 @@ pub(crate) fn mask_of(slots: &[Option<Hold>], env: u8) -> u64
 fn hold_without(slot: Option<Hold>, env: u8) -> Option<Hold>
     ensures { result ≡ hold_without env slot }
 {
-    let hold = slot?;
-    if hold.owner == env {
-        return None;
-    }
-    if hold.holder == env {
-        return own_hold(Some(hold.owner));
-    }
-    slot
+    slot?.without(env)
 }
 
 /// Empties each slot that the environment owns, and gives back each that it holds for another.

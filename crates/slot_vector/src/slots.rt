@@ -2,7 +2,7 @@
 ghost use Rattle.std.specs.Prelude.{◌≡◌, ◌<◌, ◌≤◌, ◌+◌, true, IsSome, IfSome, IsNone, Some, OnErr, OnOk, length, slice_get, All};
 ghost use Rattle.std.specs.Option.{option_map};
 ghost use Rattle.aegis_limits.specs.Limits.{least_quantum, most_quantum, most_slots, excess_limit, environment_numbers};
-ghost use Rattle.world_model.specs.declared.slot.Hold.{Hold as Held};
+ghost use Rattle.world_model.specs.declared.hold.Hold.{Hold as Held};
 ghost use Rattle.world_model.specs.declared.slot.Phase.TheVariants as phase;
 ghost use Rattle.world_model.specs.Book.{own_hold, running};
 ghost use Rattle.world_model.specs.SlotCalls.{dropped};
@@ -11,7 +11,7 @@ ghost use Rattle.world_model.specs.Timer.{timer_at_end};
 
 use crate::excess::Excess;
 use crate::held::{another, dropped, gift_refusal, handed, held_by, put, slot_at};
-use crate::search::{Row, first_turn, hold_at, mask_of, own_hold, own_holds, release};
+use crate::search::{Row, first_turn, hold_at, mask_of, own_holds, release};
 use crate::turn::NextTurn;
 use aegis_limits::EXCESS_LIMIT;
 use std::marker::Model;
@@ -220,7 +220,7 @@ impl Slots {
         if let Some(why) = take_refusal(slot_at(self.slots.as_slice(), slot as usize)) {
             return Err(why);
         }
-        put(&mut self.slots, slot as usize, own_hold(Some(env)));
+        put(&mut self.slots, slot as usize, Some(Hold::own(env)));
         Ok(())
     }
 

@@ -8,7 +8,7 @@ use Rattle.mips_exec.specs.declared.exception.Outcome.TheVariants as outcome
 use Rattle.mips_exec.specs.Step.{Trapped, outcome_of}
 use Rattle.env_frames.specs.declared.mapping.Mapping.{Mapping}
 use Rattle.guest_memory.specs.Look.{guest_step}
-use Rattle.world_model.specs.Page.{user_end}
+use Rattle.mips_exec.specs.AccessKind.{user_end}
 use Rattle.r3k_tlb.specs.declared.row.Row.{Row}
 use Rattle.r3k_cp0.specs.declared.registers.Cp0.{Cp0}
 use Rattle.r3k_machine.specs.declared.machine.MachineEnd.TheVariants as ends

@@ -16,20 +16,20 @@ use Rattle.mips_exec.specs.declared.exception.Exc.{Exc}
 use Rattle.mips_exec.specs.declared.exception.ExcCode.TheVariants as code
 use Rattle.mips_exec.specs.Access.{Write, access, is_aligned, low_bytes, place_of, write_of}
 use Rattle.mips_exec.specs.Effect.{effect}
-use Rattle.mips_exec.specs.Exception.{at_address, plain}
+use Rattle.mips_exec.specs.Exception.{at_address, is_miss, plain}
 use Rattle.mips_exec.specs.Step.{Answers, Step, Retired, Called, Trapped, access_after, answered, answered_if, without_value, decoded, ended, executed, fetched, named_by, outcome_of, write_after}
 use Rattle.env_frames.specs.declared.mapping.Mapping.{Mapping}
 use Rattle.guest_memory.specs.Look.{frames_after, guest_step, look, written_through}
 use Rattle.world_model.specs.Page.{Mapped, answers_by, if_served}
 use Rattle.r3k_tlb.specs.declared.row.Row.{Row}
 use Rattle.r3k_cp0.specs.declared.registers.Cp0.{Cp0}
-use Rattle.r3k_machine.specs.declared.translation.AccessKind.TheVariants as kind
+use Rattle.mips_exec.specs.declared.access_kind.AccessKind.TheVariants as kind
 use Rattle.r3k_machine.specs.Machine.{end_of}
 use Rattle.r3k_machine.specs.Memory.{frames_written, row_answers, row_step, stored_in}
 use Rattle.r3k_machine.specs.Translation.{reached_page}
-use Rattle.tlb_model.specs.Lookups.{access_vpns, data_vpns, fetch_vpns, first_missing, has_no_row, is_miss_code, is_missed, spot_vpns, user_vpn}
+use Rattle.tlb_model.specs.Lookups.{access_vpns, data_vpns, fetch_vpns, first_missing, has_no_row, is_missed, spot_vpns, user_vpn}
 use Rattle.tlb_laws.specs.Laws.{FindsAreFlat, RunsFor, end_without_refill, vpns_over}
-use Rattle.tlb_laws.proofs.Raising.{raised_plain, same_miss}
+use Rattle.tlb_laws.proofs.Raising.{raised_plain}
 use Rattle.tlb_laws.proofs.Viewing.{IsServed, Reached, Refused, number_same, served_access, some_err, store_same}
 
 both_none : {A : Type 0} (a b : Option A) → option_or a b ≡ None → (a ≡ None) × (b ≡ None)
@@ -43,9 +43,9 @@ trapped_same : (x y : Exc) → Trapped x ≡ Trapped y → x ≡ y
 trapped_same x y h = cc
 
 -- what an instruction raises
-ended_by : (cpu : Cpu) (c : Change) (w : Option Write) (exc : Exc) → ((y : Exc) → c ≡ Raises y → is_miss_code y.code ≡ false) → ended cpu c w ≡ Trapped exc
-    → is_miss_code exc.code ≡ false
-ended_by cpu (Raises y) w exc plain is = ap (λ (z : Exc). is_miss_code z.code) (sym (trapped_same y exc is)) ∙ plain y refl
+ended_by : (cpu : Cpu) (c : Change) (w : Option Write) (exc : Exc) → ((y : Exc) → c ≡ Raises y → is_miss y.code ≡ false) → ended cpu c w ≡ Trapped exc
+    → is_miss exc.code ≡ false
+ended_by cpu (Raises y) w exc plain is = ap (λ (z : Exc). is_miss z.code) (sym (trapped_same y exc is)) ∙ plain y refl
 ended_by cpu Calls w exc plain is = search rules
 ended_by cpu Passes w exc plain is = search rules
 ended_by cpu (Puts n value) w exc plain is = search rules
@@ -53,11 +53,11 @@ ended_by cpu (PutsHiLo high low) w exc plain is = search rules
 ended_by cpu (Jumps target) w exc plain is = search rules
 ended_by cpu (JumpsAndLinks n target) w exc plain is = search rules
 
-ended_code : (insn : Insn) (cpu : Cpu) (x : ℕ) (w : Option Write) (exc : Exc) → ended cpu (effect insn cpu x) w ≡ Trapped exc → is_miss_code exc.code ≡ false
+ended_code : (insn : Insn) (cpu : Cpu) (x : ℕ) (w : Option Write) (exc : Exc) → ended cpu (effect insn cpu x) w ≡ Trapped exc → is_miss exc.code ≡ false
 ended_code insn cpu x w exc is = ended_by cpu (effect insn cpu x) w exc (raised_plain insn cpu x) is
 
-err_plain : (address : ℕ) (exc x : Exc) → is_miss_code exc.code ≡ false → Trapped (at_address exc address) ≡ Trapped x → is_miss_code x.code ≡ false
-err_plain address exc x plain is = ap (λ (z : Exc). is_miss_code z.code) (sym (trapped_same (at_address exc address) x is)) ∙ plain
+err_plain : (address : ℕ) (exc x : Exc) → is_miss exc.code ≡ false → Trapped (at_address exc address) ≡ Trapped x → is_miss x.code ≡ false
+err_plain address exc x plain is = ap (λ (z : Exc). is_miss z.code) (sym (trapped_same (at_address exc address) x is)) ∙ plain
 
 -- what an instruction writes is what its access does, or nothing
 ended_write : (P : Option Write → Type 0) (cpu : Cpu) (c : Change) (w : Option Write) → P None → P w → P (write_after (ended cpu c w))
@@ -77,7 +77,7 @@ without_ok : (r : Result (Unit {0}) Exc) (v : ℕ) (x : Exc) → without_value r
 without_ok r v x is err = search (rules, is, err)
 
 -- a step that raises no miss ends as it does
-plain_step : (st : Step) → ((x : Exc) → st ≡ Trapped x → is_miss_code x.code ≡ false) → is_missed st ≡ false
+plain_step : (st : Step) → ((x : Exc) → st ≡ Trapped x → is_miss x.code ≡ false) → is_missed st ≡ false
 plain_step (Retired cpu w) plain = refl
 plain_step Called plain = refl
 plain_step (Trapped x) plain = plain x refl
@@ -85,7 +85,7 @@ plain_step (Trapped x) plain = plain x refl
 plain_end : (cp0 : Cp0) (rows : List Row) (st : Step) → is_missed st ≡ false → end_of cp0 rows (outcome_of st) ≡ end_without_refill (outcome_of st)
 plain_end cp0 rows (Retired cpu w) plain = refl
 plain_end cp0 rows Called plain = refl
-plain_end cp0 rows (Trapped x) plain = rw (same_miss x.code, plain) refl
+plain_end cp0 rows (Trapped x) plain = rw plain refl
 
 module _ (leads : ℕ → ℕ → Option Mapping) (e : ℕ) (cp0 : Cp0) (rows : List Row) (frames : List (List ℕ)) (runs : RunsFor leads e cp0 rows frames) where
   abbrev over_rows : Answers
@@ -139,37 +139,37 @@ module _ (leads : ℕ → ℕ → Option Mapping) (e : ℕ) (cp0 : Cp0) (rows : 
       ∙ ap (decoded cpu (fetched over_mappings cpu.pc)) (data_same cpu (fetched over_mappings cpu.pc) parts.1)
 
   -- ---- what it raises is no miss
-  fetch_plain : (pc : ℕ) (exc : Exc) → first_missing rows e (fetch_vpns pc) ≡ None → fetched over_mappings pc ≡ Err exc → is_miss_code exc.code ≡ false
+  fetch_plain : (pc : ℕ) (exc : Exc) → first_missing rows e (fetch_vpns pc) ≡ None → fetched over_mappings pc ≡ Err exc → is_miss exc.code ≡ false
   fetch_plain pc exc all is = by_place (pc % 4 == 0) all is
     where
-      by_place : (b : Bool) → first_missing rows e (if b then user_vpn pc else []) ≡ None → (if b then (answers_by (look frames (leads e))).fetch pc else Err (plain code.Adel)) ≡ Err exc → is_miss_code exc.code ≡ false
+      by_place : (b : Bool) → first_missing rows e (if b then user_vpn pc else []) ≡ None → (if b then (answers_by (look frames (leads e))).fetch pc else Err (plain code.Adel)) ≡ Err exc → is_miss exc.code ≡ false
       by_place true all is = some_err (leads e) cp0 rows frames _ kind.Fetch pc exc (served_access leads e cp0 rows frames runs kind.Fetch pc all) is
       by_place false all is = let same : Err (plain code.Adel) ≡ Err exc = is in search rules
 
-  access_plain : (a : Access) (exc : Exc) → first_missing rows e (access_vpns (Some a)) ≡ None → answered over_mappings a ≡ Err exc → is_miss_code exc.code ≡ false
+  access_plain : (a : Access) (exc : Exc) → first_missing rows e (access_vpns (Some a)) ≡ None → answered over_mappings a ≡ Err exc → is_miss exc.code ≡ false
   access_plain (Load spot) exc all is = by_place (is_aligned spot) all is
     where
       by_place : (b : Bool) → first_missing rows e (if b then user_vpn (place_of spot) else []) ≡ None
-          → (if b then (answers_by (look frames (leads e))).load (place_of spot) spot.width else Err (plain code.Adel)) ≡ Err exc → is_miss_code exc.code ≡ false
+          → (if b then (answers_by (look frames (leads e))).load (place_of spot) spot.width else Err (plain code.Adel)) ≡ Err exc → is_miss exc.code ≡ false
       by_place true all is = some_err (leads e) cp0 rows frames _ kind.Load (place_of spot) exc (served_access leads e cp0 rows frames runs kind.Load (place_of spot) all) is
       by_place false all is = search rules
   access_plain (Store spot value) exc all is = by_place (is_aligned spot) all is
     where
       by_place : (b : Bool) → first_missing rows e (if b then user_vpn (place_of spot) else []) ≡ None
-          → (if b then without_value ((answers_by (look frames (leads e))).store (place_of spot) spot.width) else Err (plain code.Ades)) ≡ Err exc → is_miss_code exc.code ≡ false
+          → (if b then without_value ((answers_by (look frames (leads e))).store (place_of spot) spot.width) else Err (plain code.Ades)) ≡ Err exc → is_miss exc.code ≡ false
       by_place true all is =
           some_err (leads e) cp0 rows frames _ kind.Store (place_of spot) exc (served_access leads e cp0 rows frames runs kind.Store (place_of spot) all)
           (without_err ((answers_by (look frames (leads e))).store (place_of spot) spot.width) exc is)
       by_place false all is = search rules
 
   executed_plain : (insn : Insn) (cpu : Cpu) (o : Option Access) (answer : Result ℕ Exc) (x : Exc) → answered_if over_mappings o ≡ answer → first_missing rows e (access_vpns o) ≡ None
-      → executed insn cpu o answer ≡ Trapped x → is_miss_code x.code ≡ false
+      → executed insn cpu o answer ≡ Trapped x → is_miss x.code ≡ false
   executed_plain insn cpu None answer x at all is = ended_code insn cpu 0 None x is
   executed_plain insn cpu (Some a) (Ok v) x at all is = ended_code insn cpu v (write_of a) x is
   executed_plain insn cpu (Some a) (Err exc) x at all is = err_plain (named_by a) exc x (access_plain a exc all at) is
 
   decoded_plain : (cpu : Cpu) (f : Result ℕ Exc) (x : Exc) → fetched over_mappings cpu.pc ≡ f → first_missing rows e (fetch_vpns cpu.pc) ≡ None
-      → first_missing rows e (data_vpns cpu f) ≡ None → decoded cpu f (access_after over_mappings cpu f) ≡ Trapped x → is_miss_code x.code ≡ false
+      → first_missing rows e (data_vpns cpu f) ≡ None → decoded cpu f (access_after over_mappings cpu f) ≡ Trapped x → is_miss x.code ≡ false
   decoded_plain cpu (Err exc) x at first next is = err_plain cpu.pc exc x (fetch_plain cpu.pc exc first at) is
   decoded_plain cpu (Ok word) x at first next is =
       executed_plain (insn_of word) cpu (access (insn_of word) cpu) (answered_if over_mappings (access (insn_of word) cpu)) x refl next is

@@ -14,25 +14,24 @@ use Rattle.mips_exec.specs.declared.exception.Exc.{Exc}
 use Rattle.mips_exec.specs.declared.exception.ExcCode.{ExcCode}
 use Rattle.mips_exec.specs.declared.exception.ExcCode.TheVariants as code
 use Rattle.mips_exec.specs.Access.{access, is_aligned, place_of}
-use Rattle.mips_exec.specs.Exception.{plain}
+use Rattle.mips_exec.specs.AccessKind.{user_end}
+use Rattle.mips_exec.specs.Exception.{at_address, is_miss, plain}
 use Rattle.mips_exec.specs.Step.{Answers, Trapped, access_after, answered, answered_if, decoded, executed, fetched, outcome_of, without_value}
 use Rattle.env_frames.specs.declared.mapping.Mapping.{Mapping}
 use Rattle.guest_memory.specs.Look.{guest_step, look}
 use Rattle.byteorder.specs.Endian.{little_number}
-use Rattle.world_model.specs.Page.{Mapped, answers_by, bytes_from, if_served, raised}
+use Rattle.world_model.specs.Page.{Mapped, answers_by, bytes_from, if_served}
 use Rattle.r3k_tlb.specs.declared.row.Row.{Row}
 use Rattle.r3k_tlb.specs.Rows.{first_fitting}
 use Rattle.r3k_cp0.specs.declared.registers.Cp0.{Cp0}
 use Rattle.r3k_cp0.specs.Registers.{current_pid}
 use Rattle.r3k_machine.specs.declared.machine.MachineEnd.TheVariants as ends
-use Rattle.r3k_machine.specs.declared.translation.AccessKind.TheVariants as kind
+use Rattle.mips_exec.specs.declared.access_kind.AccessKind.TheVariants as kind
 use Rattle.r3k_machine.specs.Machine.{end_of, is_unfit}
 use Rattle.r3k_machine.specs.Memory.{number_in, row_answers, row_step, without_page}
-use Rattle.r3k_machine.specs.Translation as machine
-use Rattle.tlb_model.specs.Lookups.{access_vpns, data_vpns, fetch_vpns, first_missing, has_no_row, is_miss_code, spot_vpns, user_vpn}
+use Rattle.tlb_model.specs.Lookups.{access_vpns, data_vpns, fetch_vpns, first_missing, has_no_row, spot_vpns, user_vpn}
 use Rattle.tlb_laws.specs.Laws.{MissesRefill, Refills, RunsFor}
 use Rattle.tlb_laws.proofs.Reaching.{missed, missed_flat}
-use Rattle.tlb_laws.proofs.Raising.{same_miss}
 use Rattle.tlb_laws.proofs.Viewing.{missing_at}
 use Rattle.tlb_laws.proofs.Finding.{fetch_same}
 
@@ -41,15 +40,19 @@ first_part : (a b : Option ℕ) (v : ℕ) → option_or a b ≡ Some v → (a �
 first_part (Some x) b v h = inl h
 first_part None b v h = inr (refl, h)
 
+-- an exception at an address
+abbrev raised_at : ExcCode → ℕ → Exc
+raised_at c bad = at_address (plain c) bad
+
 -- what raises a miss at a user's address that no row fits
-end_missed : (cp0 : Cp0) (rows : List Row) (c : ExcCode) (bad e : ℕ) → is_miss_code c ≡ true → nat_lt bad machine.user_end ≡ true
+end_missed : (cp0 : Cp0) (rows : List Row) (c : ExcCode) (bad e : ℕ) → is_miss c ≡ true → nat_lt bad user_end ≡ true
     → is_none (first_fitting (bad / page_size) e rows) ≡ true → current_pid cp0 ≡ e
-    → end_of cp0 rows (outcome_of (Trapped (raised c bad))) ≡ ends.Refill (raised c bad)
+    → end_of cp0 rows (outcome_of (Trapped (raised_at c bad))) ≡ ends.Refill (raised_at c bad)
 end_missed cp0 rows c bad e miss user none pid =
-    ap (λ (b : Bool). if b && is_unfit cp0 rows bad then ends.Refill (raised c bad) else ends.Trap (raised c bad)) (same_miss c ∙ miss)
-    ∙ ap (λ (b : Bool). if b && is_none (first_fitting (bad / page_size) (current_pid cp0) rows) then ends.Refill (raised c bad) else ends.Trap (raised c bad)) user
-    ∙ ap (λ n. if is_none (first_fitting (bad / page_size) n rows) then ends.Refill (raised c bad) else ends.Trap (raised c bad)) pid
-    ∙ ap (λ (b : Bool). if b then ends.Refill (raised c bad) else ends.Trap (raised c bad)) none
+    ap (λ (b : Bool). if b && is_unfit cp0 rows bad then ends.Refill (raised_at c bad) else ends.Trap (raised_at c bad)) miss
+    ∙ ap (λ (b : Bool). if b && is_none (first_fitting (bad / page_size) (current_pid cp0) rows) then ends.Refill (raised_at c bad) else ends.Trap (raised_at c bad)) user
+    ∙ ap (λ n. if is_none (first_fitting (bad / page_size) n rows) then ends.Refill (raised_at c bad) else ends.Trap (raised_at c bad)) pid
+    ∙ ap (λ (b : Bool). if b then ends.Refill (raised_at c bad) else ends.Trap (raised_at c bad)) none
 
 -- the bytes of a spot lie in the page of the address that it names
 same_page : (spot : Spot) → place_of spot / page_size ≡ spot.address / page_size
@@ -59,14 +62,14 @@ same_page spot = by_down spot.down
     by_down true = grind arith
     by_down false = refl
 
-same_space : (spot : Spot) → nat_le machine.user_end (place_of spot) ≡ false → nat_lt spot.address machine.user_end ≡ true
+same_space : (spot : Spot) → nat_le user_end (place_of spot) ≡ false → nat_lt spot.address user_end ≡ true
 same_space spot below = by_down spot.down below
   where
-    by_down : (b : Bool) → nat_le machine.user_end (if b then spot.address / 4 * 4 else spot.address) ≡ false → nat_lt spot.address machine.user_end ≡ true
+    by_down : (b : Bool) → nat_le user_end (if b then spot.address / 4 * 4 else spot.address) ≡ false → nat_lt spot.address user_end ≡ true
     by_down true below = grind arith
     by_down false below = grind arith
 
-user_lt : (address : ℕ) → nat_le machine.user_end address ≡ false → nat_lt address machine.user_end ≡ true
+user_lt : (address : ℕ) → nat_le user_end address ≡ false → nat_lt address user_end ≡ true
 user_lt address below = grind arith
 
 module _ (leads : ℕ → ℕ → Option Mapping) (e : ℕ) (cp0 : Cp0) (rows : List Row) (frames : List (List ℕ)) (runs : RunsFor leads e cp0 rows frames) (cpu : Cpu) (v : ℕ) where
@@ -77,14 +80,14 @@ module _ (leads : ℕ → ℕ → Option Mapping) (e : ℕ) (cp0 : Cp0) (rows : 
   by_mappings = answers_by (look frames (leads e))
 
   -- a miss at this address
-  refills_at : (c : ExcCode) (bad : ℕ) → is_miss_code c ≡ true → bad / page_size ≡ v → nat_lt bad machine.user_end ≡ true → first_fitting (bad / page_size) e rows ≡ None
-      → row_step cp0 rows frames cpu ≡ Trapped (raised c bad) → (leads e v ≡ None → guest_step frames (leads e) cpu ≡ Trapped (raised c bad))
+  refills_at : (c : ExcCode) (bad : ℕ) → is_miss c ≡ true → bad / page_size ≡ v → nat_lt bad user_end ≡ true → first_fitting (bad / page_size) e rows ≡ None
+      → row_step cp0 rows frames cpu ≡ Trapped (raised_at c bad) → (leads e v ≡ None → guest_step frames (leads e) cpu ≡ Trapped (raised_at c bad))
       → Refills (leads e) cp0 rows frames cpu v
   refills_at c bad miss at user none step flat = record {
-    exc = raised c bad;
+    exc = raised_at c bad;
     step = step;
     at = at;
-    user = ltb-true bad machine.user_end user;
+    user = ltb-true bad user_end user;
     end = end_missed cp0 rows c bad e miss user (ap is_none none) runs.pid;
     flat = flat;
     missed = miss;
@@ -98,7 +101,7 @@ module _ (leads : ℕ → ℕ → Option Mapping) (e : ℕ) (cp0 : Cp0) (rows : 
       by_place false h is = search rules
       by_place true h is =
           let m = missing_at leads e cp0 rows frames runs cpu.pc v is in
-          let by_row : fetched by_rows cpu.pc ≡ Err (raised code.Tlbl cpu.pc) =
+          let by_row : fetched by_rows cpu.pc ≡ Err (raised_at code.Tlbl cpu.pc) =
           ap (λ (b : Bool). if b then by_rows.fetch cpu.pc else Err (plain code.Adel)) h
           ∙ ap (number_in frames cpu.pc 4) (missed leads e cp0 rows frames runs kind.Fetch cpu.pc m.1 m.2) in
           refills_at code.Tlbl cpu.pc refl m.0 (user_lt cpu.pc m.1) m.2
@@ -108,14 +111,14 @@ module _ (leads : ℕ → ℕ → Option Mapping) (e : ℕ) (cp0 : Cp0) (rows : 
           ∙ ap (if_served (λ (m : Mapped). little_number 4 (bytes_from cpu.pc m))) (missed_flat leads e cp0 rows frames runs kind.Fetch cpu.pc m.1 (ap (leads e) m.0 ∙ none))))
 
   load_missed : (spot : Spot) → first_missing rows e (spot_vpns spot) ≡ Some v
-      → (spot.address / page_size ≡ v) × (nat_lt spot.address machine.user_end ≡ true) × (first_fitting (spot.address / page_size) e rows ≡ None)
-      × (answered by_rows (Load spot) ≡ Err (raised code.Tlbl (place_of spot))) × (leads e v ≡ None → answered by_mappings (Load spot) ≡ Err (raised code.Tlbl (place_of spot)))
+      → (spot.address / page_size ≡ v) × (nat_lt spot.address user_end ≡ true) × (first_fitting (spot.address / page_size) e rows ≡ None)
+      × (answered by_rows (Load spot) ≡ Err (raised_at code.Tlbl (place_of spot))) × (leads e v ≡ None → answered by_mappings (Load spot) ≡ Err (raised_at code.Tlbl (place_of spot)))
   unfolding row_answers
   load_missed spot is = by_place (is_aligned spot) refl is
     where
       by_place : (b : Bool) → is_aligned spot ≡ b → first_missing rows e (if b then user_vpn (place_of spot) else []) ≡ Some v
-          → (spot.address / page_size ≡ v) × (nat_lt spot.address machine.user_end ≡ true) × (first_fitting (spot.address / page_size) e rows ≡ None)
-          × (answered by_rows (Load spot) ≡ Err (raised code.Tlbl (place_of spot))) × (leads e v ≡ None → answered by_mappings (Load spot) ≡ Err (raised code.Tlbl (place_of spot)))
+          → (spot.address / page_size ≡ v) × (nat_lt spot.address user_end ≡ true) × (first_fitting (spot.address / page_size) e rows ≡ None)
+          × (answered by_rows (Load spot) ≡ Err (raised_at code.Tlbl (place_of spot))) × (leads e v ≡ None → answered by_mappings (Load spot) ≡ Err (raised_at code.Tlbl (place_of spot)))
       by_place false h is = search rules
       by_place true h is =
           let m = missing_at leads e cp0 rows frames runs (place_of spot) v is in (
@@ -129,14 +132,14 @@ module _ (leads : ℕ → ℕ → Option Mapping) (e : ℕ) (cp0 : Cp0) (rows : 
           )
 
   store_missed : (spot : Spot) (value : ℕ) → first_missing rows e (spot_vpns spot) ≡ Some v
-      → (spot.address / page_size ≡ v) × (nat_lt spot.address machine.user_end ≡ true) × (first_fitting (spot.address / page_size) e rows ≡ None)
-      × (answered by_rows (Store spot value) ≡ Err (raised code.Tlbs (place_of spot))) × (leads e v ≡ None → answered by_mappings (Store spot value) ≡ Err (raised code.Tlbs (place_of spot)))
+      → (spot.address / page_size ≡ v) × (nat_lt spot.address user_end ≡ true) × (first_fitting (spot.address / page_size) e rows ≡ None)
+      × (answered by_rows (Store spot value) ≡ Err (raised_at code.Tlbs (place_of spot))) × (leads e v ≡ None → answered by_mappings (Store spot value) ≡ Err (raised_at code.Tlbs (place_of spot)))
   unfolding row_answers
   store_missed spot value is = by_place (is_aligned spot) refl is
     where
       by_place : (b : Bool) → is_aligned spot ≡ b → first_missing rows e (if b then user_vpn (place_of spot) else []) ≡ Some v
-          → (spot.address / page_size ≡ v) × (nat_lt spot.address machine.user_end ≡ true) × (first_fitting (spot.address / page_size) e rows ≡ None)
-          × (answered by_rows (Store spot value) ≡ Err (raised code.Tlbs (place_of spot))) × (leads e v ≡ None → answered by_mappings (Store spot value) ≡ Err (raised code.Tlbs (place_of spot)))
+          → (spot.address / page_size ≡ v) × (nat_lt spot.address user_end ≡ true) × (first_fitting (spot.address / page_size) e rows ≡ None)
+          × (answered by_rows (Store spot value) ≡ Err (raised_at code.Tlbs (place_of spot))) × (leads e v ≡ None → answered by_mappings (Store spot value) ≡ Err (raised_at code.Tlbs (place_of spot)))
       by_place false h is = search rules
       by_place true h is =
           let m = missing_at leads e cp0 rows frames runs (place_of spot) v is in (

@@ -10,28 +10,20 @@ use Rattle.mips_exec.specs.declared.exception.ExcCode.TheVariants as code
 use Rattle.frame_store.specs.Pages.{page_at}
 use Rattle.env_frames.specs.declared.mapping.Mapping.{Mapping}
 use Rattle.guest_memory.specs.Look.{look, look_through}
-use Rattle.world_model.specs.declared.access.Purpose.{Purpose}
-use Rattle.world_model.specs.declared.access.Purpose.TheVariants as purpose
 use Rattle.world_model.specs.Page.{Mapped, reach, served}
-use Rattle.world_model.specs.Page as flat
 use Rattle.r3k_tlb.specs.declared.row.Row.{Row}
 use Rattle.r3k_tlb.specs.Row.{lo_word_of}
 use Rattle.r3k_tlb.specs.Rows.{first_fitting}
 use Rattle.r3k_cp0.specs.declared.registers.Cp0.{Cp0}
 use Rattle.r3k_cp0.specs.Registers.{current_pid, is_user}
-use Rattle.r3k_machine.specs.declared.translation.AccessKind.{AccessKind}
-use Rattle.r3k_machine.specs.declared.translation.AccessKind.TheVariants as kind
-use Rattle.r3k_machine.specs.Translation.{if_there, is_store, page_by_mode, page_by_row, raised, reached_page}
+use Rattle.mips_exec.specs.declared.access_kind.AccessKind.{AccessKind}
+use Rattle.mips_exec.specs.declared.access_kind.AccessKind.TheVariants as kind
+use Rattle.mips_exec.specs.AccessKind.{address_error, is_store, miss, raised, user_end}
+use Rattle.r3k_machine.specs.Translation.{Segment, if_there, page_by_mode, page_by_row, reached_page}
 use Rattle.r3k_machine.specs.Translation as machine
 use Rattle.tlb_model.specs.Cache.{row_for}
-use Rattle.tlb_model.proofs.Fitting.{page_in, rows_say}
+use Rattle.tlb_model.proofs.Fitting.{page_in as page_of_row, rows_say}
 use Rattle.tlb_laws.specs.Laws.{RunsFor}
-
--- what an access is for
-abbrev pub purpose_of : AccessKind → Purpose
-purpose_of kind.Fetch = purpose.Fetch
-purpose_of kind.Load = purpose.Load
-purpose_of kind.Store = purpose.Store
 
 -- an access is served by a mapping that may be stored to or not
 abbrev pub served_page : AccessKind → ℕ → Bool → ℕ → Result ℕ Exc
@@ -39,7 +31,7 @@ served_page k address writable page = if is_store k && not writable then raised 
 
 abbrev pub served_bytes : AccessKind → ℕ → Bool → List ℕ → Result Mapped Exc
 served_bytes k address writable bytes =
-    if is_store k && not writable then Err (flat.raised code.Mod address) else Ok (record { writable = writable; bytes = bytes })
+    if is_store k && not writable then raised code.Mod address else Ok (record { writable = writable; bytes = bytes })
 
 valid_low : (page : ℕ) (w : Bool) → (lo_word_of page w / 2 ^ 9 % 2 == 1) ≡ true
 valid_low page true = grind arith
@@ -50,7 +42,7 @@ dirty_low page true = grind arith
 dirty_low page false = grind arith
 
 by_row : (k : AccessKind) (address e : ℕ) (m : Mapping) → page_by_row k address (Some (row_for e m)) ≡ served_page k address m.writable m.page
-by_row k address e m = rw (valid_low m.page m.writable, dirty_low m.page m.writable, page_in m.page m.writable) refl
+by_row k address e m = rw (valid_low m.page m.writable, dirty_low m.page m.writable, page_of_row m.page m.writable) refl
 
 there_if : (pages : ℕ) (k : AccessKind) (address page : ℕ) → page < pages → if_there pages k address (Ok page) ≡ Ok page
 there_if pages k address page less = rw (lt-ltb page pages less) refl
@@ -63,7 +55,7 @@ there_page pages kind.Load address page false less = there_if pages kind.Load ad
 there_page pages kind.Store address page true less = there_if pages kind.Store address page less
 there_page pages kind.Store address page false less = refl
 
-by_mapping : (k : AccessKind) (address : ℕ) (w : Bool) (bytes : List ℕ) → served (purpose_of k) address (Some (record { writable = w; bytes = bytes })) ≡ served_bytes k address w bytes
+by_mapping : (k : AccessKind) (address : ℕ) (w : Bool) (bytes : List ℕ) → served k address (Some (record { writable = w; bytes = bytes })) ≡ served_bytes k address w bytes
 by_mapping kind.Fetch address w bytes = refl
 by_mapping kind.Load address w bytes = refl
 by_mapping kind.Store address w bytes = refl
@@ -72,22 +64,50 @@ looked : (frames : List (List ℕ)) (leads : ℕ → Option Mapping) (vpn : ℕ)
     → look frames leads vpn ≡ Some (record { writable = m.writable; bytes = page_at frames m.page })
 looked frames leads vpn m is there = rw is (ap (option_map (λ bytes. record { writable = m.writable; bytes = bytes })) (slice_get-get_or frames m.page _ there))
 
-pub user_vpn_below : (address : ℕ) → nat_le machine.user_end address ≡ false → address / page_size < vpn_end
+pub user_vpn_below : (address : ℕ) → nat_le user_end address ≡ false → address / page_size < vpn_end
 user_vpn_below address below = grind arith
 
+-- the page of an access by its row, and by the segment of its address
+abbrev row_page_of : Cp0 → List Row → AccessKind → ℕ → Result ℕ Exc
+row_page_of cp0 rows k address = page_by_row k address (first_fitting (address / page_size) (current_pid cp0) rows)
+
+abbrev page_in_mode : Bool → AccessKind → ℕ → Result ℕ Exc → Segment → Result ℕ Exc
+page_in_mode user k address by_row s =
+    if user then machine.user_page k address by_row s else machine.kernel_page address by_row s
+
+abbrev page_in : Cp0 → List Row → AccessKind → ℕ → Segment → Result ℕ Exc
+page_in cp0 rows k address s = page_in_mode (is_user cp0) k address (row_page_of cp0 rows k address) s
+
+users_segment : (address : ℕ) → nat_le user_end address ≡ false → machine.segment_of address ≡ machine.Users
+users_segment address below =
+    let less : nat_lt address user_end ≡ true = grind arith in
+    ap (λ (b : Bool). if b then machine.Users else (if nat_lt address machine.direct_end then machine.Direct else machine.High)) less
+
+abbrev segment_past : ℕ → Segment
+segment_past address = if nat_lt address machine.direct_end then machine.Direct else machine.High
+
+kernels_segment : (address : ℕ) → nat_le user_end address ≡ true → machine.segment_of address ≡ segment_past address
+kernels_segment address beyond =
+    let more : nat_lt address user_end ≡ false = grind arith in
+    ap (λ (b : Bool). if b then machine.Users else segment_past address) more
+
+refused_past : (k : AccessKind) (address : ℕ) (by_row : Result ℕ Exc) (b : Bool)
+    → machine.user_page k address by_row (if b then machine.Direct else machine.High) ≡ raised (address_error k) address
+refused_past k address by_row true = refl
+refused_past k address by_row false = refl
+
 module _ (leads : ℕ → ℕ → Option Mapping) (e : ℕ) (cp0 : Cp0) (rows : List Row) (frames : List (List ℕ)) (runs : RunsFor leads e cp0 rows frames) where
-  user_page : (k : AccessKind) (address : ℕ) → nat_le machine.user_end address ≡ false
+  user_page : (k : AccessKind) (address : ℕ) → nat_le user_end address ≡ false
       → page_by_mode cp0 rows k address ≡ page_by_row k address (first_fitting (address / page_size) e rows)
   user_page k address below =
-      ap (λ (b : Bool). if b && is_user cp0 then raised (machine.address_error k) address
-      else (if b && nat_lt address machine.direct_end then Ok (address % machine.direct_size / page_size)
-      else page_by_row k address (first_fitting (address / page_size) (current_pid cp0) rows))) below
+      ap (λ (s : Segment). page_in cp0 rows k address s) (users_segment address below)
+      ∙ ap (λ (b : Bool). if b then row_page_of cp0 rows k address else row_page_of cp0 rows k address) runs.user
       ∙ ap (λ pid. page_by_row k address (first_fitting (address / page_size) pid rows)) runs.pid
 
   -- a user's access that finds a row
-  pub found : (k : AccessKind) (address : ℕ) (row : Row) → nat_le machine.user_end address ≡ false → first_fitting (address / page_size) e rows ≡ Some row
+  pub found : (k : AccessKind) (address : ℕ) (row : Row) → nat_le user_end address ≡ false → first_fitting (address / page_size) e rows ≡ Some row
       → (m : Mapping) × (leads e (address / page_size) ≡ Some m) × (reached_page cp0 rows (length frames) k address ≡ served_page k address m.writable m.page)
-      × (reach (look frames (leads e)) (purpose_of k) address ≡ served_bytes k address m.writable (page_at frames m.page))
+      × (reach (look frames (leads e)) k address ≡ served_bytes k address m.writable (page_at frames m.page))
   found k address row below fits =
       let f = rows_say leads (length frames) rows (address / page_size) e row runs.coherent (user_vpn_below address below) runs.numbered fits in
       let m = f.mapping in (
@@ -95,39 +115,36 @@ module _ (leads : ℕ → ℕ → Option Mapping) (e : ℕ) (cp0 : Cp0) (rows : 
         f.mapped,
         ap (if_there (length frames) k address) (user_page k address below ∙ ap (page_by_row k address) (fits ∙ ap Some f.words) ∙ by_row k address e m)
             ∙ there_page (length frames) k address m.page m.writable f.there,
-        ap (λ (b : Bool). if b then Err (flat.raised (flat.address_error (purpose_of k)) address)
-            else served (purpose_of k) address (look frames (leads e) (address / page_size))) below
-            ∙ ap (served (purpose_of k) address) (looked frames (leads e) (address / page_size) m f.mapped f.there)
+        ap (λ (b : Bool). if b then raised (address_error k) address
+            else served k address (look frames (leads e) (address / page_size))) below
+            ∙ ap (served k address) (looked frames (leads e) (address / page_size) m f.mapped f.there)
             ∙ by_mapping k address m.writable (page_at frames m.page),
       )
 
   -- one that finds none
-  pub missed : (k : AccessKind) (address : ℕ) → nat_le machine.user_end address ≡ false → first_fitting (address / page_size) e rows ≡ None
-      → reached_page cp0 rows (length frames) k address ≡ raised (machine.miss k) address
+  pub missed : (k : AccessKind) (address : ℕ) → nat_le user_end address ≡ false → first_fitting (address / page_size) e rows ≡ None
+      → reached_page cp0 rows (length frames) k address ≡ raised (miss k) address
   missed k address below none =
       ap (if_there (length frames) k address) (user_page k address below ∙ ap (page_by_row k address) none)
 
   -- where the VPN leads nowhere it is one of the mappings', too
-  pub missed_flat : (k : AccessKind) (address : ℕ) → nat_le machine.user_end address ≡ false → leads e (address / page_size) ≡ None
-      → reach (look frames (leads e)) (purpose_of k) address ≡ Err (flat.raised (flat.miss (purpose_of k)) address)
+  pub missed_flat : (k : AccessKind) (address : ℕ) → nat_le user_end address ≡ false → leads e (address / page_size) ≡ None
+      → reach (look frames (leads e)) k address ≡ raised (miss k) address
   missed_flat k address below none =
-      ap (λ (b : Bool). if b then Err (flat.raised (flat.address_error (purpose_of k)) address)
-      else served (purpose_of k) address (look frames (leads e) (address / page_size))) below
-      ∙ ap (λ m. served (purpose_of k) address (look_through frames m)) none
+      ap (λ (b : Bool). if b then raised (address_error k) address
+      else served k address (look frames (leads e) (address / page_size))) below
+      ∙ ap (λ m. served k address (look_through frames m)) none
 
   -- an address that is no user's
-  pub refused : (k : AccessKind) (address : ℕ) → nat_le machine.user_end address ≡ true
-      → reached_page cp0 rows (length frames) k address ≡ raised (machine.address_error k) address
+  pub refused : (k : AccessKind) (address : ℕ) → nat_le user_end address ≡ true
+      → reached_page cp0 rows (length frames) k address ≡ raised (address_error k) address
   refused k address beyond =
-      ap (λ (b : Bool). if_there (length frames) k address (if b && is_user cp0 then raised (machine.address_error k) address
-      else (if b && nat_lt address machine.direct_end then Ok (address % machine.direct_size / page_size)
-      else page_by_row k address (first_fitting (address / page_size) (current_pid cp0) rows)))) beyond
-      ∙ ap (λ (b : Bool). if_there (length frames) k address (if b then raised (machine.address_error k) address
-      else (if nat_lt address machine.direct_end then Ok (address % machine.direct_size / page_size)
-      else page_by_row k address (first_fitting (address / page_size) (current_pid cp0) rows)))) runs.user
+      ap (λ (s : Segment). if_there (length frames) k address (page_in cp0 rows k address s)) (kernels_segment address beyond)
+      ∙ ap (λ (b : Bool). if_there (length frames) k address (page_in_mode b k address (row_page_of cp0 rows k address) (segment_past address))) runs.user
+      ∙ ap (if_there (length frames) k address) (refused_past k address (row_page_of cp0 rows k address) (nat_lt address machine.direct_end))
 
-  pub refused_flat : (k : AccessKind) (address : ℕ) → nat_le machine.user_end address ≡ true
-      → reach (look frames (leads e)) (purpose_of k) address ≡ Err (flat.raised (flat.address_error (purpose_of k)) address)
+  pub refused_flat : (k : AccessKind) (address : ℕ) → nat_le user_end address ≡ true
+      → reach (look frames (leads e)) k address ≡ raised (address_error k) address
   refused_flat k address beyond =
-      ap (λ (b : Bool). if b then Err (flat.raised (flat.address_error (purpose_of k)) address)
-      else served (purpose_of k) address (look frames (leads e) (address / page_size))) beyond
+      ap (λ (b : Bool). if b then raised (address_error k) address
+      else served k address (look frames (leads e) (address / page_size))) beyond

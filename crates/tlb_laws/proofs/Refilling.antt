@@ -15,7 +15,8 @@ use Rattle.mips_exec.specs.declared.exception.Exc.{Exc}
 use Rattle.mips_exec.specs.Access.{access, is_aligned, place_of}
 use Rattle.mips_exec.specs.Step.{fetched}
 use Rattle.guest_memory.specs.Look.{look}
-use Rattle.world_model.specs.Page.{answers_by, user_end}
+use Rattle.mips_exec.specs.AccessKind.{user_end}
+use Rattle.world_model.specs.Page.{answers_by}
 use Rattle.env_frames.specs.declared.mapping.Mapping.{Mapping}
 use Rattle.r3k_tlb.specs.declared.row.Row.{Row}
 use Rattle.r3k_tlb.specs.Rows.{with_row_at}

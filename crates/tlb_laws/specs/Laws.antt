@@ -9,7 +9,8 @@ use Rattle.mips_exec.specs.Step.{Trapped, outcome_of, view_of, write_after}
 use Rattle.env_frames.specs.declared.mapping.Mapping.{Mapping}
 use Rattle.guest_memory.specs.Look.{frames_after, guest_step, look}
 use Rattle.guest_memory.specs.Steps.{AllRetire, after_steps}
-use Rattle.world_model.specs.Page.{answers_by, user_end}
+use Rattle.mips_exec.specs.AccessKind.{user_end}
+use Rattle.world_model.specs.Page.{answers_by}
 use Rattle.r3k_tlb.specs.declared.row.Row.{Row}
 use Rattle.r3k_tlb.specs.Rows.{row_count, with_row_at}
 use Rattle.r3k_cp0.specs.declared.registers.Cp0.{Cp0}

@@ -1,4 +1,4 @@
--- That no row of the TLB outlives its mapping.
+-- That no row of the TLB outlives its mapping, for any look-up. `Living` of aegis_calls has it of the world, for readers.
 use Rattle.std.specs.Prelude.{◌≡◌, ◌<◌, ℕ, List, All, Option, Some}
 use Rattle.aegis_limits.specs.Limits.{vpn_end, environment_numbers}
 use Rattle.env_frames.specs.declared.mapping.Mapping.{Mapping}

@@ -10,7 +10,7 @@ use Rattle.tlb_model.specs.Cache.{row_for}
 use Rattle.tlb_model.specs.Flushes.{Flush, all_flushed, is_flushed}
 use Rattle.tlb_model.specs.Coherence.{AreCoherent}
 
--- a row is that of the mapping to which an environment's VPN leads
+-- A row is that of the mapping to which an environment's VPN leads. `Holds` has the same of a row whose pair isn't known.
 pub record FittingRow (leads : ℕ → ℕ → Option Mapping) (pages e vpn : ℕ) (row : Row) : Type 0 where
   pub mapping : Mapping
   pub mapped : leads e vpn ≡ Some mapping

@@ -7,12 +7,11 @@ use Rattle.mips_exec.specs.declared.reach.Access.{Access}
 use Rattle.mips_exec.specs.declared.reach.Access.TheVariants.{Load, Store}
 use Rattle.mips_exec.specs.declared.reach.Spot.{Spot}
 use Rattle.mips_exec.specs.declared.exception.Exc.{Exc}
-use Rattle.mips_exec.specs.declared.exception.ExcCode.{ExcCode}
-use Rattle.mips_exec.specs.declared.exception.ExcCode.TheVariants as code
 use Rattle.mips_exec.specs.Access.{access, is_aligned, place_of}
+use Rattle.mips_exec.specs.Exception.{is_miss}
 use Rattle.mips_exec.specs.Step.{Step, Retired, Called, Trapped}
 use Rattle.env_frames.specs.declared.mapping.Mapping.{Mapping}
-use Rattle.world_model.specs.Page.{user_end}
+use Rattle.mips_exec.specs.AccessKind.{user_end}
 use Rattle.r3k_tlb.specs.declared.row.Row.{Row}
 use Rattle.r3k_tlb.specs.Rows.{first_fitting}
 use Rattle.tlb_model.specs.Cache.{Cache, refilled, with_forwarded, with_random_fallen}
@@ -77,16 +76,11 @@ settled (suc n) kept leads e vpns c =
 
 -- ---- the step
 
-abbrev pub is_miss_code : ExcCode → Bool
-is_miss_code code.Tlbl = true
-is_miss_code code.Tlbs = true
-is_miss_code c = false
-
 -- whether a step ends in a miss, which the environment gets as an exception
 abbrev pub is_missed : Step → Bool
 is_missed (Retired cpu write) = false
 is_missed Called = false
-is_missed (Trapped exc) = is_miss_code exc.code
+is_missed (Trapped exc) = is_miss exc.code
 
 -- The last attempt: Random falls, and a miss is forwarded.
 abbrev pub attempted : ℕ → Step → Cache → Cache

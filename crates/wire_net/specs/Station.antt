@@ -1,4 +1,4 @@
--- A tick of one machine on a wire, and the ticks behind it in which it is alone.
+-- A tick of one machine on a wire, and the ticks behind it in which it is alone. For proofs: nobody has to believe it.
 use Rattle.std.specs.Prelude.{ℕ, ◌≡◌, ◌≤◌, ◌<◌, ◌+◌, ◌-◌, ◌⊎◌, List, ◌++◌, false, drop, length, get_or}
 use Rattle.external_event.specs.declared.event.Occurrence.{Occurrence}
 use Rattle.external_event.specs.EventValue.{EventValue}
@@ -57,7 +57,8 @@ pub record IsAt (s : Station) (b : Shown) : Type 0 where
 pub record WentOn (machine time until : ℕ) (due : List Delivery) (b : Shown) (s : Station) (c : Shown) : Type 0 where
   pub turn : s.time ≡ time
   pub further : ℕ
-  pub silent : AreSilent (time + 1) further (after_tick (happening_at machine time due s.agenda) (world_of b)) (world_of c)
+  pub silent : AreSilent (time + 1) further
+      (after_tick (happening_at machine time due s.agenda) (world_of b)) (world_of c)
   pub before_event : further ≤ next_time_of (still_coming time s.agenda) - (time + 1)
   pub before_arrival : further ≤ until - (time + 1)
 

@@ -3,7 +3,7 @@ use Rattle.std.proofs.Common.{arith, ap, subst, ◌∙◌, inl, inr, ◌≡◌, 
 use Rattle.std.specs.Option.{option_map}
 use Rattle.std.proofs.lemmas.Bool.{cases_eq, eq-eqb, ne_eqb}
 use Rattle.std.proofs.Math.Nat.{mod-add-mod}
-use Rattle.world_model.specs.declared.slot.Hold.{Hold}
+use Rattle.world_model.specs.declared.hold.Hold.{Hold}
 use Rattle.world_model.specs.Book.{excess_after_forfeit, owed, owed_in}
 
 -- a slot from the next one on, counted from this one

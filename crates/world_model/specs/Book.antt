@@ -10,7 +10,7 @@ use Rattle.bind_book.specs.Stripe.{leads_to_page, is_bound, without}
 use Rattle.filter_tree.specs.ClaimBook.{ClaimValue}
 use Rattle.revocation_book.specs.declared.revocation.Pending.{Pending}
 use Rattle.world_model.specs.Table.{set_at}
-use Rattle.world_model.specs.declared.slot.Hold.{Hold}
+use Rattle.world_model.specs.declared.hold.Hold.{Hold}
 use Rattle.world_model.specs.declared.slot.Runner.{Runner}
 use Rattle.world_model.specs.declared.slot.Turn.{Turn}
 

@@ -16,7 +16,8 @@ use Rattle.world_model.specs.declared.call.Call.TheVariants as call
 use Rattle.world_model.specs.declared.call.Deed.{Deed}
 use Rattle.world_model.specs.declared.call.Deed.TheVariants.{Answers, Own, Stops, Gives, Allocates, Frees, Recaps, Binds, Unbinds, Transfers, TakesSlot, DropsSlot, TakesLine, DropsLine, Claims, Unclaims, Downloads, Loads}
 use Rattle.world_model.specs.declared.call.OwnDeed.TheVariants.{Puts, Sends, Handles, Accepts}
-use Rattle.world_model.specs.Page.{Mapped, user_end}
+use Rattle.mips_exec.specs.AccessKind.{user_end}
+use Rattle.world_model.specs.Page.{Mapped}
 
 abbrev pub call_named : ℕ → Option Call
 call_named number =

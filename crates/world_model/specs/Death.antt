@@ -5,7 +5,7 @@ use Rattle.kernel_journal.specs.declared.row.Row.TheVariants as row
 use Rattle.page_book.specs.Row.{belongs_to}
 use Rattle.page_book.specs.Row.{released as freed_row}
 use Rattle.bind_book.specs.Stripe.{goes_with, without}
-use Rattle.world_model.specs.declared.slot.Hold.{Hold}
+use Rattle.world_model.specs.declared.hold.Hold.{Hold}
 use Rattle.world_model.specs.Table.{set_at}
 use Rattle.world_model.specs.Book.{Book, hold_without, has_part, withdrawn}
 use Rattle.filter_tree.specs.ClaimBook.{is_of_env}

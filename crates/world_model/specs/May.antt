@@ -15,7 +15,7 @@ use Rattle.filter_core.specs.declared.atom.Atom.{Atom}
 use Rattle.filter_tree.specs.Claims.{claim_refusal}
 use Rattle.revocation_book.specs.Backups.{load_refusal}
 use Rattle.revocation_book.specs.Richest.{richest}
-use Rattle.world_model.specs.declared.slot.Hold.{Hold}
+use Rattle.world_model.specs.declared.hold.Hold.{Hold}
 use Rattle.world_model.specs.Book.{Book}
 use Rattle.world_model.specs.Solo.{Solo, sight}
 use Rattle.world_model.specs.OwnCalls.{MayOwn}

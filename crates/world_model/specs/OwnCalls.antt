@@ -14,7 +14,8 @@ use Rattle.world_model.specs.declared.verdict.Verdict.{Verdict}
 use Rattle.world_model.specs.declared.verdict.Verdict.TheVariants.{Grant}
 use Rattle.world_model.specs.Answer.{granted_unless}
 use Rattle.world_model.specs.Call.{good_range}
-use Rattle.world_model.specs.Page.{Mapped, user_end}
+use Rattle.mips_exec.specs.AccessKind.{user_end}
+use Rattle.world_model.specs.Page.{Mapped}
 use Rattle.world_model.specs.Solo.{Solo, sight}
 
 -- Put: the bytes that are named; none need no range.

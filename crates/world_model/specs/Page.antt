@@ -1,13 +1,13 @@
 -- What an access answers, given where each VPN leads.
-use Rattle.std.specs.Prelude.{ℕ, ◌/◌, ◌%◌, List, drop, Bool, true, false, not, ◌&&◌, nat_le, if◌then◌else◌, Option, Some, None, Result, Ok, Err}
+use Rattle.std.specs.Prelude.{ℕ, ◌/◌, ◌%◌, List, drop, Bool, not, ◌&&◌, nat_le, if◌then◌else◌, Option, Some, None, Result, Ok, Err}
 use Rattle.aegis_limits.specs.Limits.{page_size}
 use Rattle.byteorder.specs.Endian.{little_number}
+use Rattle.mips_exec.specs.declared.access_kind.AccessKind.{AccessKind}
+use Rattle.mips_exec.specs.declared.access_kind.AccessKind.TheVariants.{Fetch, Load, Store}
 use Rattle.mips_exec.specs.declared.exception.Exc.{Exc}
-use Rattle.mips_exec.specs.declared.exception.ExcCode.{ExcCode}
 use Rattle.mips_exec.specs.declared.exception.ExcCode.TheVariants as code
+use Rattle.mips_exec.specs.AccessKind.{address_error, is_store, miss, raised, user_end}
 use Rattle.mips_exec.specs.Step.{Answers}
-use Rattle.world_model.specs.declared.access.Purpose.{Purpose}
-use Rattle.world_model.specs.declared.access.Purpose.TheVariants.{Fetch, Load, Store}
 
 -- a guaranteed page: its VPN, whether it may be stored to, and its bytes
 pub record KeptPage : Type 0 where
@@ -20,40 +20,16 @@ pub record Mapped : Type 0 where
   pub writable : Bool
   pub bytes : List ℕ
 
--- what an address outside user space raises
-abbrev pub address_error : Purpose → ExcCode
-address_error Fetch = code.Adel
-address_error Load = code.Adel
-address_error Store = code.Ades
-
--- what a VPN that leads nowhere raises
-abbrev pub miss : Purpose → ExcCode
-miss Fetch = code.Tlbl
-miss Load = code.Tlbl
-miss Store = code.Tlbs
-
-abbrev pub raised : ExcCode → ℕ → Exc
-raised c address = record { code = c; bad = address; unit = 0 }
-
-abbrev pub is_store : Purpose → Bool
-is_store Fetch = false
-is_store Load = false
-is_store Store = true
-
 -- a mapping serves an access, unless it is read-only and the access a store
-abbrev pub served : Purpose → ℕ → Option Mapped → Result Mapped Exc
-served purpose address None = Err (raised (miss purpose) address)
-served purpose address (Some m) = if is_store purpose && not m.writable then Err (raised code.Mod address) else Ok m
-
--- user addresses lie below this one
-abbrev pub user_end : ℕ
-user_end = 0x80000000
+abbrev pub served : AccessKind → ℕ → Option Mapped → Result Mapped Exc
+served kind address None = raised (miss kind) address
+served kind address (Some m) = if is_store kind && not m.writable then raised code.Mod address else Ok m
 
 -- where an access goes: the VPN is the address over the size of a page
-abbrev pub reach : (ℕ → Option Mapped) → Purpose → ℕ → Result Mapped Exc
-reach look purpose address =
-    if nat_le user_end address then Err (raised (address_error purpose) address)
-    else served purpose address (look (address / page_size))
+abbrev pub reach : (ℕ → Option Mapped) → AccessKind → ℕ → Result Mapped Exc
+reach look kind address =
+    if nat_le user_end address then raised (address_error kind) address
+    else served kind address (look (address / page_size))
 
 -- the bytes of a page from an address on
 abbrev pub bytes_from : ℕ → Mapped → List ℕ
@@ -65,9 +41,9 @@ if_served f (Ok m) = Ok (f m)
 if_served f (Err exc) = Err exc
 
 -- what a load or a fetch is answered: the number in so many bytes, the lowest first
-abbrev pub read_answer : Purpose → (ℕ → Option Mapped) → ℕ → ℕ → Result ℕ Exc
-read_answer purpose look address width =
-    if_served (λ m. little_number width (bytes_from address m)) (reach look purpose address)
+abbrev pub read_answer : AccessKind → (ℕ → Option Mapped) → ℕ → ℕ → Result ℕ Exc
+read_answer kind look address width =
+    if_served (λ m. little_number width (bytes_from address m)) (reach look kind address)
 
 -- what the machine is answered where VPNs lead so
 abbrev pub answers_by : (ℕ → Option Mapped) → Answers

@@ -10,7 +10,7 @@ use Rattle.world_model.specs.declared.code.Code.TheVariants as code
 use Rattle.world_model.specs.declared.life.Life.{Life}
 use Rattle.world_model.specs.declared.question.Question.{Question}
 use Rattle.world_model.specs.declared.question.Question.TheVariants as question
-use Rattle.world_model.specs.declared.slot.Hold.{Hold}
+use Rattle.world_model.specs.declared.hold.Hold.{Hold}
 use Rattle.world_model.specs.Book.{page_row}
 use Rattle.world_model.specs.Call.{any}
 use Rattle.world_model.specs.Solo.{is_dead}

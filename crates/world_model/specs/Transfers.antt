@@ -11,7 +11,7 @@ use Rattle.env_frames.specs.Context.{handler_of}
 use Rattle.env_frames.specs.Transfer.{carried, entry_context, hands_slot, transfer_numbered}
 use Rattle.world_model.specs.declared.code.Code.{Code}
 use Rattle.world_model.specs.declared.code.Code.TheVariants as code
-use Rattle.world_model.specs.declared.slot.Hold.{Hold}
+use Rattle.world_model.specs.declared.hold.Hold.{Hold}
 use Rattle.world_model.specs.Table.{set_at}
 use Rattle.world_model.specs.Book.{Book}
 use Rattle.world_model.specs.Solo.{Solo}

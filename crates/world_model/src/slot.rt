@@ -3,13 +3,7 @@ ghost use Rattle.std.specs.Prelude.{◌≡◌, IsNone, IsSome};
 ghost use Rattle.world_model.specs.SlotCalls.{drop_refusal, take_refusal};
 
 use crate::code::Code;
-
-/// Whose a slot is, and who runs in it.
-#[derive(Clone, Copy)]
-pub struct Hold {
-    pub owner: u8,
-    pub holder: u8,
-}
+use crate::hold::Hold;
 
 /// Whether a slice is an environment's own time, or time that it takes beyond it.
 #[derive(Clone, Copy)]
@@ -56,7 +50,7 @@ pub fn drop_refusal(slot: Option<Option<Hold>>, env: u8) -> Option<Code>
 {
     match slot {
         None => Some(Code::NoSlice),
-        Some(Some(hold)) if hold.holder == env => None,
+        Some(Some(hold)) if hold.is_held_by(env) => None,
         Some(_) => Some(Code::NotHolder),
     }
 }

@@ -1,9 +1,0 @@
-use Rattle.std.proofs.Common.{refl, ◌≡◌, None, slice_get}
-use Rattle.std.proofs.lemmas.Option.{unwrap_or-slice_get}
-use Rattle.page_book.specs.declared.row.PageRow.TheVariants.{Free}
-use Rattle.bind_book.proofs.sweep.page_belongs_to.Goals as goal
-
-pub returns-in-None : goal.returns-in-None
-returns-in-None c =
-    let none : slice_get c.args.pages.now c.args.page ≡ None = cc c.in-None.ensures in
-    rw (← unwrap_or-slice_get c.args.pages.now c.args.page Free, none) refl
