@@ -1,15 +1,16 @@
 -- The text of a bare run, line by line.
-use Rattle.std.specs.Prelude.{ℕ, zero, suc, ◌-◌, List, [], ◌∷◌, ◌++◌, map, take, drop, length, min, codes}
+use Rattle.std.specs.Prelude.{ℕ, ◌-◌, List, [], ◌∷◌, ◌++◌, map, take, drop, length, min, codes}
 use Rattle.std.specs.List.{concat}
-use Rattle.sha2.specs.Sha256.{sha256}
-use Rattle.hex.specs.Hex.{encode_lower}
 use Rattle.aegis_limits.specs.Limits.{page_size}
 use Rattle.line_text.specs.Text.{dec_text, hex_text}
-use Rattle.line_text.specs.WrittenLine.{flag_text, line, quotation}
+use Rattle.line_text.specs.WrittenLine.{line, quotation}
+use Rattle.machine_text.specs.Fingerprint.{fingerprint}
+use Rattle.machine_text.specs.Registers.{cpu_words, register_words}
+use Rattle.machine_text.specs.RowLines.{tlb_row_lines}
 use Rattle.mips_exec.specs.declared.registers.Cpu.{Cpu}
 use Rattle.frame_store.specs.Pages.{page_at, word_at}
 use Rattle.r3k_tlb.specs.declared.row.Row.{Row}
-use Rattle.r3k_tlb.specs.Rows.{row_at, row_count}
+use Rattle.r3k_tlb.specs.Rows.{row_count}
 use Rattle.r3k_cp0.specs.declared.registers.Cp0.{Cp0}
 use Rattle.r3k_cp0.specs.Registers.{cp0_reg}
 use Rattle.bare_board.specs.declared.ending.BareEnd.{BareEnd}
@@ -36,13 +37,11 @@ unfoldable pub out_line : List ℕ → List ℕ
 out_line console = line (codes "out" ∷ dec_text (length console) ∷ quotation console ∷ [])
 
 unfoldable pub cpu_line : Cpu → List ℕ
-cpu_line cpu = line
-    (codes "cpu" ∷ hex_text 8 cpu.pc ∷ hex_text 8 cpu.next ∷ flag_text cpu.slot ∷ hex_text 8 cpu.hi
-    ∷ hex_text 8 cpu.lo ∷ [])
+cpu_line cpu = line (codes "cpu" ∷ cpu_words cpu)
 
 -- registers 1 to 31
 unfoldable pub regs_line : Cpu → List ℕ
-regs_line cpu = line (codes "regs" ∷ map (hex_text 8) (drop 1 cpu.regs))
+regs_line cpu = line (codes "regs" ∷ register_words cpu)
 
 -- the registers of coprocessor 0 that are shown: all but PRId
 abbrev pub shown_cp0_regs : List ℕ
@@ -51,17 +50,9 @@ shown_cp0_regs = 0 ∷ 1 ∷ 2 ∷ 4 ∷ 8 ∷ 10 ∷ 12 ∷ 13 ∷ 14 ∷ []
 unfoldable pub cp0_line : Cp0 → List ℕ
 cp0_line c = line (codes "cp0" ∷ map (λ n. hex_text 8 (cp0_reg c n)) shown_cp0_regs)
 
--- the fingerprint of physical memory: SHA-256 in 64 digits
+-- the fingerprint of physical memory
 unfoldable pub ram_line : List (List ℕ) → List ℕ
-ram_line frames = line (codes "ram" ∷ encode_lower (sha256 (concat frames)) ∷ [])
-
-unfoldable pub row_line : ℕ → Row → List ℕ
-row_line i row = line (codes "row" ∷ dec_text i ∷ hex_text 8 row.hi ∷ hex_text 8 row.lo ∷ [])
-
--- the lines of the first rows, so many
-abbrev pub row_lines : List Row → ℕ → List ℕ
-row_lines rows zero = []
-row_lines rows (suc i) = row_lines rows i ++ row_line i (row_at rows i)
+ram_line frames = line (codes "ram" ∷ fingerprint (concat frames) ∷ [])
 
 unfoldable pub head_lines : BareEnd → ℕ → List ℕ
 head_lines how ticks = line (codes "aegis" ∷ codes "bare" ∷ []) ++ end_line how ticks
@@ -70,7 +61,7 @@ unfoldable pub register_lines : Cpu → Cp0 → List ℕ
 register_lines cpu cp0 = cpu_line cpu ++ regs_line cpu ++ cp0_line cp0
 
 unfoldable pub memory_lines : List Row → List (List ℕ) → List ℕ
-memory_lines rows frames = ram_line frames ++ row_lines rows row_count
+memory_lines rows frames = ram_line frames ++ tlb_row_lines rows row_count
 
 -- the whole text
 unfoldable pub run_text : BareEnd → ℕ → Cpu → Cp0 → List Row → List (List ℕ) → List ℕ

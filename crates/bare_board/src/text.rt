@@ -1,31 +1,23 @@
 //! The text of a run.
-ghost use Rattle.std.specs.Prelude.{◌≡◌, ◌++◌, ◌∷◌, [], ◌-◌, codes, drop, length, map, IfOk, OnOk};
-ghost use Rattle.std.specs.List.{concat, flat_map};
-ghost use Rattle.line_text.specs.Text.{hex_text};
-ghost use Rattle.line_text.specs.WrittenLine.{spaced};
-ghost use Rattle.sha2.specs.Sha256.{sha256};
-ghost use Rattle.hex.specs.Hex.{encode_lower};
+ghost use Rattle.std.specs.Prelude.{◌≡◌, ◌++◌, ◌-◌, length, IfOk, OnOk};
+ghost use Rattle.std.specs.List.{concat};
 ghost use Rattle.frame_store.specs.Pages.{page_at};
-ghost use Rattle.r3k_tlb.specs.Rows.{row_count};
 ghost use Rattle.bare_board.specs.Loading.{bare_pages};
-ghost use Rattle.bare_board.specs.Text.{console_in, cp0_line, cpu_line, end_line, end_name, head_lines, memory_lines, out_line, ram_line, regs_line, row_line, row_lines, register_lines, run_text};
+ghost use Rattle.bare_board.specs.Text.{console_in, cp0_line, cpu_line, end_line, end_name, head_lines, memory_lines, out_line, ram_line, regs_line, register_lines, run_text};
 
 use crate::ending::BareEnd;
 use crate::loading::BARE_PAGES;
 use aegis_limits::OutOfMemory;
 use frame_store::Frames;
-use line_text::{Word, end_line, push_line, push_spaced, push_word};
+use line_text::{Word, end_line, push_line, push_word};
+use machine_text::{cpu_words, fingerprint, push_register_words, push_row_lines};
 use mips_exec::Cpu;
 use r3k_machine::Machine;
-use r3k_tlb::{ROW_COUNT, Row, Tlb};
-use sha2::{Digest, Sha256};
+use r3k_tlb::Tlb;
 use std::alloc::Global;
 
 /// The bytes of a word, behind which the console begins in its page.
 const WORD_BYTES: usize = 4;
-
-/// The characters of a fingerprint: two for each byte of a digest.
-const FINGERPRINT_SIZE: usize = 64;
 
 /// The name of how a run ended.
 fn end_name(how: BareEnd) -> &'static [u8]
@@ -75,31 +67,7 @@ fn push_out_line(out: &mut Vec<u8>, console: &[u8]) -> Result<(), OutOfMemory>
 fn push_cpu_line(out: &mut Vec<u8>, cpu: &Cpu) -> Result<(), OutOfMemory>
     ensures { OnOk result (out.new.items ≡ out.old.items ++ cpu_line cpu.now) }
 {
-    let words = [
-        Word::Hexadecimal(cpu.pc),
-        Word::Hexadecimal(cpu.next),
-        Word::Flag(cpu.slot),
-        Word::Hexadecimal(cpu.hi),
-        Word::Hexadecimal(cpu.lo),
-    ];
-    push_line(out, b"cpu", &words)
-}
-
-/// Appends values, each behind a space.
-fn push_values(out: &mut Vec<u8>, values: &[u32]) -> Result<(), OutOfMemory>
-    ensures { OnOk result (out.new.items ≡ out.old.items ++ flat_map spaced (map (hex_text 8) values.now)) }
-{
-    for value in values {
-        push_spaced(out, Word::Hexadecimal(*value))?;
-    }
-    Ok(())
-}
-
-/// Registers 1 to 31.
-fn shown_registers(cpu: &Cpu) -> &[u32]
-    ensures { result.now ≡ drop 1 cpu.now.regs }
-{
-    &cpu.regs[1..]
+    push_line(out, b"cpu", &cpu_words(cpu))
 }
 
 /// Appends the line of registers 1 to 31.
@@ -108,7 +76,7 @@ fn push_regs_line(out: &mut Vec<u8>, cpu: &Cpu) -> Result<(), OutOfMemory>
     ensures { OnOk result (out.new.items ≡ out.old.items ++ regs_line cpu.now) }
 {
     push_word(out, Word::Text(b"regs"))?;
-    push_values(out, shown_registers(cpu))?;
+    push_register_words(out, cpu)?;
     end_line(out)
 }
 
@@ -142,16 +110,6 @@ fn all_bytes(alloc: Global, frames: &Frames) -> Result<Vec<u8>, OutOfMemory>
     Ok(bytes)
 }
 
-/// The fingerprint of bytes: their SHA-256 in hexadecimal digits.
-fn fingerprint(bytes: &[u8]) -> [u8; FINGERPRINT_SIZE]
-    ensures { result ≡ encode_lower (sha256 bytes.now) }
-{
-    let digest = Sha256::digest(bytes);
-    let mut text = [0; FINGERPRINT_SIZE];
-    hex::encode_to_slice(digest, &mut text).unwrap();
-    text
-}
-
 /// Appends the line of physical memory.
 #[tactic(auto, unfolding(crate::specs::Text::ram_line, line_text::specs::WrittenLine::line_of))]
 fn push_ram_line(alloc: Global, out: &mut Vec<u8>, frames: &Frames) -> Result<(), OutOfMemory>
@@ -160,30 +118,6 @@ fn push_ram_line(alloc: Global, out: &mut Vec<u8>, frames: &Frames) -> Result<()
     let bytes = all_bytes(alloc, frames)?;
     let fingerprint = fingerprint(&bytes);
     push_line(out, b"ram", &[Word::Text(&fingerprint)])
-}
-
-/// Appends the line of a row.
-#[tactic(auto, unfolding(crate::specs::Text::row_line, line_text::specs::WrittenLine::line_of))]
-fn push_row_line(out: &mut Vec<u8>, i: u8, row: Row) -> Result<(), OutOfMemory>
-    ensures { OnOk result (out.new.items ≡ out.old.items ++ row_line i row) }
-{
-    let words = [
-        Word::Number(u64::from(i)),
-        Word::Hexadecimal(row.hi),
-        Word::Hexadecimal(row.lo),
-    ];
-    push_line(out, b"row", &words)
-}
-
-/// Appends the lines of all rows.
-#[tactic(auto, using(std::proofs::lemmas::Grind::common_steps, crate::proofs::Lines::one_row_more))]
-fn push_row_lines(out: &mut Vec<u8>, tlb: &Tlb) -> Result<(), OutOfMemory>
-    ensures { OnOk result (out.new.items ≡ out.old.items ++ row_lines tlb.now row_count) }
-{
-    for i in 0..ROW_COUNT as u8 {
-        push_row_line(out, i, tlb.read(i))?;
-    }
-    Ok(())
 }
 
 /// Appends the lines of the registers.

@@ -9,6 +9,9 @@ use Rattle.boot_image.specs.ImageValue.{name_text}
 use Rattle.line_text.specs.declared.failure.LineFault.{LineFault}
 use Rattle.line_text.specs.Text.{dec_text, hex_text}
 use Rattle.line_text.specs.WrittenLine.{bytes_text, flag_text, line, quotation, spaced}
+use Rattle.machine_text.specs.Fingerprint.{fingerprint}
+use Rattle.machine_text.specs.Registers.{register_words}
+use Rattle.machine_text.specs.Series.{for_each}
 use Rattle.mips_exec.specs.declared.exception.ExcCode.{ExcCode}
 use Rattle.mips_exec.specs.declared.exception.ExcCode.TheVariants as exc
 use Rattle.mips_exec.specs.declared.registers.Cpu.{Cpu}
@@ -18,10 +21,9 @@ use Rattle.world_model.specs.declared.life.Life.TheVariants.{Live, Dead}
 use Rattle.world_model.specs.declared.life.Cause.TheVariants as cause
 use Rattle.world_model.specs.Page.{KeptPage}
 use Rattle.world_model.specs.Solo.{Solo, Seen}
-use Rattle.world_model.specs.Table.{listed}
 use Rattle.world_model.specs.View.{owned_bytes}
 use Rattle.world_model.specs.World.{World}
-use Rattle.run_report.specs.Report.{bind_line, bind_lines, cpu_line, env_line, env_text, exception_text, excess_line, fingerprint, for_each, if_live, keep_line, keep_lines, life_words, living_lines, mode_text, numbers_line, out_line, page_line, page_lines, register_text, regs_line, rising_bindings, sent_line, sent_lines, shown_cpu}
+use Rattle.run_report.specs.Report.{bind_line, bind_lines, cpu_line, env_line, env_text, exception_text, excess_line, if_live, keep_line, keep_lines, life_words, living_lines, mode_text, numbers_line, out_line, page_line, page_lines, regs_line, rising_bindings, sent_line, sent_lines, shown_cpu}
 use Rattle.ledger_text.specs.declared.fault.LedgerWhy.{LedgerWhy}
 use Rattle.ledger_text.specs.declared.kind.LineKind.{LineKind}
 use Rattle.ledger_text.specs.declared.kind.LineKind.TheVariants as kind
@@ -74,9 +76,9 @@ mode_plain : (writable : Bool) → Plain (mode_text writable)
 mode_plain true = refl
 mode_plain false = refl
 
-listed_plain : (f : ℕ → List ℕ) → ((i : ℕ) → Plain (f i)) → (n : ℕ) → ArePlain (listed f n)
-listed_plain f each zero = tt
-listed_plain f each (suc n) = more (listed f n) (listed_plain f each n)
+each_plain : (f : ℕ → List ℕ) → ((i : ℕ) → Plain (f i)) → (n : ℕ) → ArePlain (for_each (λ i. f i ∷ []) n)
+each_plain f each zero = tt
+each_plain f each (suc n) = more (for_each (λ i. f i ∷ []) n) (each_plain f each n)
   where
     more : (words : List (List ℕ)) → ArePlain words → ArePlain (words ++ f n ∷ [])
     more [] are = (each n, tt)
@@ -136,15 +138,15 @@ module _ (end : ℕ) (from : Result LedgerValue (LineFault LedgerWhy)) (k : Know
       pass_line end from k is_kind_out is_kind_cpu kind.Cpu (codes "cpu") words refl (λ last is. is) (λ text. refl) refl refl
       (body_plain (codes "cpu") words refl (dec_plain e, (hex_plain 8 cpu.pc, (hex_plain 8 cpu.next, (plain_high (flag_text cpu.slot) (flag_high cpu.slot), (hex_plain 8 cpu.hi, (hex_plain 8 cpu.lo, tt)))))))
 
-  regs_by : (e : ℕ) (f : ℕ → List ℕ) (n : ℕ) → ((i : ℕ) → Plain (f i)) → Leads is_kind_cpu is_kind_regs (line (codes "regs" ∷ dec_text e ∷ listed f n))
+  regs_by : (e : ℕ) (f : ℕ → List ℕ) (n : ℕ) → ((i : ℕ) → Plain (f i)) → Leads is_kind_cpu is_kind_regs (line (codes "regs" ∷ dec_text e ∷ for_each (λ i. f i ∷ []) n))
   regs_by e f n each =
-      let words = dec_text e ∷ listed f n in
+      let words = dec_text e ∷ for_each (λ i. f i ∷ []) n in
       pass_line end from k is_kind_cpu is_kind_regs kind.Regs (codes "regs") words refl (λ last is. is) (λ text. refl) refl refl
-      (body_plain (codes "regs") words refl (dec_plain e, listed_plain f each n))
+      (body_plain (codes "regs") words refl (dec_plain e, each_plain f each n))
 
   regs_passes : (e : ℕ) (cpu : Cpu) → Leads is_kind_cpu is_kind_regs (regs_line e cpu)
-  unfolding regs_line
-  regs_passes e cpu = regs_by e (register_text cpu) 31 (λ i. hex_plain 8 (reg cpu (i + 1)))
+  unfolding regs_line register_words
+  regs_passes e cpu = regs_by e (λ i. hex_text 8 (reg cpu (i + 1))) 31 (λ i. hex_plain 8 (reg cpu (i + 1)))
 
   excess_passes : (e excess : ℕ) → Leads is_kind_regs before_keep (excess_line e excess)
   unfolding numbers_line

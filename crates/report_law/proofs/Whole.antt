@@ -14,10 +14,11 @@ use Rattle.line_text.specs.Outcome.{◌>>=◌}
 use Rattle.line_text.specs.Statements.{end_of}
 use Rattle.line_text.specs.Text.{dec_text}
 use Rattle.line_text.specs.WrittenLine.{line, or_dash, spaced}
+use Rattle.machine_text.specs.Series.{for_each}
 use Rattle.world_model.specs.Table.{listed}
 use Rattle.world_model.specs.World.{World}
 use Rattle.run_model.specs.Excess.{is_over_of, is_pay_of, is_run_of}
-use Rattle.run_report.specs.Report.{end_line, end_text, env_text, for_each, numbers_line, report_text, row_line, sum_line}
+use Rattle.run_report.specs.Report.{end_line, end_text, env_text, numbers_line, report_text, row_line, sum_line}
 use Rattle.ledger_audit.specs.LedgerState.{LedgerState}
 use Rattle.ledger_text.specs.declared.entry.Entry.TheVariants as entry
 use Rattle.ledger_text.specs.declared.fault.LedgerWhy.{LedgerWhy}

@@ -1,4 +1,3 @@
 mod Counting
 mod Rising
-mod Lines
 mod Rooms

@@ -1,11 +1,12 @@
 -- The text of a report.
-use Rattle.std.specs.Prelude.{ℕ, zero, suc, ◌+◌, ◌^◌, List, [], ◌∷◌, ◌++◌, length, count_by, codes, Bool, true, false, ◌==◌, if◌then◌else◌, Option, Some}
+use Rattle.std.specs.Prelude.{ℕ, ◌^◌, List, [], ◌∷◌, ◌++◌, length, count_by, codes, Bool, true, false, ◌==◌, if◌then◌else◌, Option, Some}
 use Rattle.std.specs.List.{filter, flat_map}
 use Rattle.std.specs.Option.{option_map_or, option_to_list}
-use Rattle.sha2.specs.Sha256.{sha256}
-use Rattle.hex.specs.Hex.{encode_lower}
 use Rattle.line_text.specs.Text.{dec_text, hex_text}
-use Rattle.line_text.specs.WrittenLine.{bytes_text, flag_text, line, or_dash, quotation, spaced}
+use Rattle.line_text.specs.WrittenLine.{bytes_text, line, or_dash, quotation, spaced}
+use Rattle.machine_text.specs.Fingerprint.{fingerprint}
+use Rattle.machine_text.specs.Registers.{cpu_words, register_words}
+use Rattle.machine_text.specs.Series.{for_each}
 use Rattle.boot_image.specs.ImageValue.{name_text}
 use Rattle.bind_book.specs.declared.binding.Binding.{Binding}
 use Rattle.aegis_limits.specs.Limits.{most_stripe_rows}
@@ -16,7 +17,7 @@ use Rattle.kernel_journal.specs.RowTable.{name_of, numbers_of}
 use Rattle.mips_exec.specs.declared.registers.Cpu.{Cpu}
 use Rattle.mips_exec.specs.declared.exception.ExcCode.{ExcCode}
 use Rattle.mips_exec.specs.declared.exception.ExcCode.TheVariants as exc
-use Rattle.mips_exec.specs.Cpu.{reg, rested}
+use Rattle.mips_exec.specs.Cpu.{rested}
 use Rattle.world_model.specs.declared.life.Life.{Life}
 use Rattle.world_model.specs.declared.life.Life.TheVariants.{Live, Dead}
 use Rattle.world_model.specs.declared.life.Cause.TheVariants as cause
@@ -25,13 +26,7 @@ use Rattle.world_model.specs.Solo.{Solo, Seen}
 use Rattle.world_model.specs.View.{owned_bytes}
 use Rattle.world_model.specs.Book.{is_runner}
 use Rattle.world_model.specs.World.{World}
-use Rattle.world_model.specs.Table.{listed}
 use Rattle.run_model.specs.Excess.{is_over_of, is_pay_of, is_run_of}
-
--- the lists of 0, 1 and so on, so many, end to end
-abbrev pub for_each : {X : Type 0} → (ℕ → List X) → ℕ → List X
-for_each items zero = []
-for_each items (suc n) = for_each items n ++ items n
 
 -- a line of a name and numbers
 unfoldable pub numbers_line : List ℕ → List (Option ℕ) → List ℕ
@@ -68,24 +63,14 @@ unfoldable pub out_line : ℕ → Solo → List ℕ
 out_line e s = line (codes "out" ∷ dec_text e ∷ dec_text (length s.console) ∷ quotation s.console ∷ [])
 
 unfoldable pub cpu_line : ℕ → Cpu → List ℕ
-cpu_line e cpu = line
-    (codes "cpu" ∷ dec_text e ∷ hex_text 8 cpu.pc ∷ hex_text 8 cpu.next ∷ flag_text cpu.slot
-    ∷ hex_text 8 cpu.hi ∷ hex_text 8 cpu.lo ∷ [])
-
--- the register after register i
-abbrev pub register_text : Cpu → ℕ → List ℕ
-register_text cpu i = hex_text 8 (reg cpu (i + 1))
+cpu_line e cpu = line (codes "cpu" ∷ dec_text e ∷ cpu_words cpu)
 
 -- registers 1 to 31
 unfoldable pub regs_line : ℕ → Cpu → List ℕ
-regs_line e cpu = line (codes "regs" ∷ dec_text e ∷ listed (register_text cpu) 31)
+regs_line e cpu = line (codes "regs" ∷ dec_text e ∷ register_words cpu)
 
 abbrev pub excess_line : ℕ → ℕ → List ℕ
 excess_line e excess = numbers_line (codes "excess") (Some e ∷ Some excess ∷ [])
-
--- a page's fingerprint: SHA-256 in 64 digits
-abbrev pub fingerprint : List ℕ → List ℕ
-fingerprint bytes = encode_lower (sha256 bytes)
 
 unfoldable pub keep_line : ℕ → KeptPage → List ℕ
 keep_line e p = line (codes "keep" ∷ dec_text e ∷ hex_text 5 p.vpn ∷ fingerprint p.bytes ∷ [])
@@ -100,6 +85,10 @@ page_line e page bytes = line (codes "page" ∷ dec_text e ∷ dec_text page ∷
 -- the pages below count that an environment owns, by rising number
 abbrev pub page_lines : ℕ → (ℕ → Option Seen) → ℕ → List ℕ
 page_lines e seen count = for_each (λ page. option_map_or (page_line e page) (owned_bytes (seen page)) []) count
+
+-- all pages that an environment owns
+abbrev pub owned_lines : World → ℕ → List ℕ
+owned_lines w e = page_lines e (w.solos e).seen w.book.page_count
 
 abbrev pub mode_text : Bool → List ℕ
 mode_text true = codes "w"
@@ -128,7 +117,7 @@ unfoldable pub living_lines : World → ℕ → List ℕ
 living_lines w e =
     cpu_line e (shown_cpu w e) ++ regs_line e (shown_cpu w e) ++ excess_line e (w.book.excess e)
     ++ keep_lines e (w.solos e).kept
-    ++ page_lines e (w.solos e).seen w.book.page_count ++ bind_lines e (w.solos e).binds
+    ++ owned_lines w e ++ bind_lines e (w.solos e).binds
 
 abbrev pub if_live : Life → List ℕ → List ℕ
 if_live Live text = text

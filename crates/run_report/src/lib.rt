@@ -18,5 +18,4 @@ mod text;
 mod words;
 
 pub use environment::env_lines;
-pub use page::{FINGERPRINT_SIZE, fingerprint};
 pub use text::{push_end_line, push_summary, report};

@@ -1,26 +1,13 @@
 //! The pages that a report shows, each by the fingerprint of its bytes.
 ghost use Rattle.std.specs.Prelude.{◌≡◌, ◌++◌, ◌<◌, OnOk};
 ghost use Rattle.world_model.specs.View.{view_seen};
-ghost use Rattle.run_report.specs.Report.{fingerprint, keep_line, keep_lines, page_line, page_lines};
+ghost use Rattle.run_report.specs.Report.{keep_line, keep_lines, owned_lines, page_line};
 
 use crate::words::{env, number};
 use aegis_limits::OutOfMemory;
 use line_text::{Word, push_line};
-use sha2::{Digest, Sha256};
+use machine_text::fingerprint;
 use world_model::{PageView, WorldView};
-
-/// The characters of a fingerprint: two for each byte of a digest.
-pub const FINGERPRINT_SIZE: usize = 64;
-
-/// The fingerprint of bytes: their SHA-256 in hexadecimal digits.
-pub fn fingerprint(bytes: &[u8]) -> [u8; FINGERPRINT_SIZE]
-    ensures { result ≡ fingerprint bytes.now }
-{
-    let digest = Sha256::digest(bytes);
-    let mut text = [0; FINGERPRINT_SIZE];
-    hex::encode_to_slice(digest, &mut text).unwrap();
-    text
-}
 
 /// Appends the line of a page.
 #[tactic(auto, unfolding(crate::specs::Report::keep_line, line_text::specs::WrittenLine::line_of))]
@@ -60,14 +47,14 @@ fn push_page_line(out: &mut Vec<u8>, who: u8, page: u32, bytes: &[u8]) -> Result
 }
 
 /// Appends the lines of the pages that an environment owns, by rising number.
-#[tactic(auto, using(std::proofs::lemmas::Grind::common_steps, crate::proofs::Lines::for_each_more))]
+#[tactic(auto, using(std::proofs::lemmas::Grind::common_steps, machine_text::proofs::Series::for_each_more))]
 pub(crate) fn push_page_lines<V: WorldView>(
     out: &mut Vec<u8>,
     view: &V,
     env: u8,
 ) -> Result<(), OutOfMemory>
     requires { env < (V.world view.now).count }
-    ensures { OnOk result (out.new.items ≡ out.old.items ++ page_lines env ((V.world view.now).solos env).seen (V.world view.now).book.page_count) }
+    ensures { OnOk result (out.new.items ≡ out.old.items ++ owned_lines (V.world view.now) env) }
 {
     for page in 0..view.page_count() {
         if let Some(bytes) = view.owned_page(env, page) {

@@ -5,11 +5,9 @@ ghost use Rattle.run_report.specs.Report.{shown_cpu, cpu_line, regs_line};
 use crate::words::env;
 use aegis_limits::OutOfMemory;
 use line_text::{Word, end_line, push_line, push_spaced, push_word};
+use machine_text::{cpu_words, push_register_words};
 use mips_exec::Cpu;
 use world_model::WorldView;
-
-/// The registers behind register 0.
-const SHOWN_REGISTERS: u8 = 31;
 
 /// The registers that are shown of an environment: the runner's as they stand, and a stopped one's at
 /// rest.
@@ -28,26 +26,17 @@ pub(crate) fn shown_cpu<V: WorldView>(view: &V, env: u8) -> Cpu
 pub(crate) fn push_cpu_line(out: &mut Vec<u8>, who: u8, cpu: &Cpu) -> Result<(), OutOfMemory>
     ensures { OnOk result (out.new.items ≡ out.old.items ++ cpu_line who cpu.now) }
 {
-    let words = [
-        env(who),
-        Word::Hexadecimal(cpu.pc),
-        Word::Hexadecimal(cpu.next),
-        Word::Flag(cpu.slot),
-        Word::Hexadecimal(cpu.hi),
-        Word::Hexadecimal(cpu.lo),
-    ];
-    push_line(out, b"cpu", &words)
+    let [pc, next, slot, hi, lo] = cpu_words(cpu);
+    push_line(out, b"cpu", &[env(who), pc, next, slot, hi, lo])
 }
 
 /// Appends the line of registers 1 to 31.
-#[tactic(auto, using(std::proofs::lemmas::Grind::common_steps, crate::proofs::Lines::words_more), unfolding(crate::specs::Report::regs_line))]
+#[tactic(auto, unfolding(crate::specs::Report::regs_line))]
 pub(crate) fn push_regs_line(out: &mut Vec<u8>, who: u8, cpu: &Cpu) -> Result<(), OutOfMemory>
     ensures { OnOk result (out.new.items ≡ out.old.items ++ regs_line who cpu.now) }
 {
     push_word(out, Word::Text(b"regs"))?;
     push_spaced(out, env(who))?;
-    for behind in 0..SHOWN_REGISTERS {
-        push_spaced(out, Word::Hexadecimal(cpu.reg(behind + 1)))?;
-    }
+    push_register_words(out, cpu)?;
     end_line(out)
 }

@@ -1,7 +1,8 @@
 //! The last lines of a report but one: how often each environment had a turn, forfeited one, or ran a
 //! quantum of excess.
-ghost use Rattle.std.specs.Prelude.{◌≡◌, ◌++◌, slice_index, [], ◌∷◌, Some, codes, OnOk};
-ghost use Rattle.run_report.specs.Report.{numbers_line, sum_line, for_each};
+ghost use Rattle.std.specs.Prelude.{◌≡◌, ◌++◌, OnOk};
+ghost use Rattle.machine_text.specs.Series.{for_each};
+ghost use Rattle.run_report.specs.Report.{sum_line};
 ghost use Rattle.run_report.specs.Sums.{AreSums, byte_values};
 
 use crate::words::env;
@@ -22,6 +23,8 @@ struct Sums {
 }
 
 impl Sums {
+    ghost use Rattle.run_report.specs.SumsLine.{line_of_sums};
+
     /// The sums of all environments, by one pass over the rows.
     fn of(rows: &[Row]) -> Sums
         ensures { AreSums rows.now result }
@@ -45,7 +48,7 @@ impl Sums {
     /// Appends the line of an environment's sums.
     #[tactic(auto, unfolding(crate::specs::Report::numbers_line, line_text::specs::WrittenLine::line_of))]
     fn push_line(&self, out: &mut Vec<u8>, who: u8) -> Result<(), OutOfMemory>
-        ensures { OnOk result (out.new.items ≡ out.old.items ++ numbers_line (codes "sum") (Some who ∷ Some (slice_index self.now.runs who) ∷ Some (slice_index self.now.pays who) ∷ Some (slice_index self.now.overs who) ∷ [])) }
+        ensures { OnOk result (out.new.items ≡ out.old.items ++ line_of_sums self.now who) }
     {
         let place = usize::from(who);
         let runs = Word::Number(self.runs[place] as u64);
@@ -56,7 +59,7 @@ impl Sums {
 }
 
 /// Appends the sums of each environment.
-#[tactic(auto, using(std::proofs::lemmas::Grind::common_steps, crate::proofs::Lines::for_each_more))]
+#[tactic(auto, using(std::proofs::lemmas::Grind::common_steps, machine_text::proofs::Series::for_each_more))]
 pub(crate) fn push_sums<V: WorldView>(out: &mut Vec<u8>, view: &V) -> Result<(), OutOfMemory>
     ensures { OnOk result (out.new.items ≡ out.old.items ++ for_each (sum_line (V.world view.now).rows) (V.world view.now).count) }
 {

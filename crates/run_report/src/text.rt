@@ -1,16 +1,17 @@
 //! The whole report.
 ghost use Rattle.std.specs.Prelude.{◌≡◌, ◌++◌, OnOk, IfOk};
-ghost use Rattle.run_report.specs.Report.{env_text, for_each, end_text, end_line, report_line, report_text, summary_text};
+ghost use Rattle.machine_text.specs.Series.{for_each};
+ghost use Rattle.run_report.specs.Report.{env_text, end_text, end_line, report_line, report_text, summary_text};
 
 use crate::environment::push_env;
 use crate::ledger::push_rows;
-use crate::page::fingerprint;
 use crate::room::room;
 use crate::sums::push_sums;
 use crate::words::number;
 use aegis_limits::OutOfMemory;
 use kernel_journal::RunEnd;
 use line_text::{Word, push_line, push_word};
+use machine_text::fingerprint;
 use std::alloc::Global;
 use world_model::WorldView;
 
@@ -86,7 +87,7 @@ fn end_text(end: RunEnd) -> &'static [u8]
 }
 
 /// Appends the lines of each environment.
-#[tactic(auto, using(std::proofs::lemmas::Grind::common_steps, crate::proofs::Lines::for_each_more))]
+#[tactic(auto, using(std::proofs::lemmas::Grind::common_steps, machine_text::proofs::Series::for_each_more))]
 fn push_envs<V: WorldView>(out: &mut Vec<u8>, view: &V) -> Result<(), OutOfMemory>
     ensures { OnOk result (out.new.items ≡ out.old.items ++ for_each (env_text (V.world view.now)) (V.world view.now).count) }
 {

@@ -1,14 +1,15 @@
 -- The text of a run's TLB, line by line.
 use Rattle.std.specs.Prelude.{ℕ, List, [], ◌∷◌, ◌++◌, codes}
-use Rattle.line_text.specs.Text.{dec_text, hex_text}
+use Rattle.line_text.specs.Text.{dec_text}
 use Rattle.line_text.specs.WrittenLine.{line}
 use Rattle.kernel_journal.specs.declared.row.RunEnd.{RunEnd}
-use Rattle.r3k_tlb.specs.declared.row.Row.{Row}
-use Rattle.r3k_tlb.specs.Rows.{row_at, row_count}
+use Rattle.machine_text.specs.RowLines.{tlb_row_lines}
+use Rattle.machine_text.specs.Series.{for_each}
+use Rattle.r3k_tlb.specs.Rows.{row_count}
 use Rattle.world_model.specs.World.{World}
 use Rattle.tlb_model.specs.declared.fills.Fills.{Fills}
 use Rattle.tlb_model.specs.Cache.{Cache, fills_of}
-use Rattle.run_report.specs.Report.{end_line, for_each}
+use Rattle.run_report.specs.Report.{end_line}
 
 -- an environment's refills from its guaranteed mappings and from its bindings, and its misses that were forwarded to it
 unfoldable pub fill_line : ℕ → Fills → List ℕ
@@ -22,13 +23,6 @@ fill_lines fills count = for_each (λ e. fill_line e (fills_of fills e)) count
 -- the row that the next refill takes
 unfoldable pub random_line : ℕ → List ℕ
 random_line random = line (codes "random" ∷ dec_text random ∷ [])
-
-unfoldable pub tlb_row_line : ℕ → Row → List ℕ
-tlb_row_line i row = line (codes "row" ∷ dec_text i ∷ hex_text 8 row.hi ∷ hex_text 8 row.lo ∷ [])
-
--- the first rows, so many
-abbrev pub tlb_row_lines : List Row → ℕ → List ℕ
-tlb_row_lines rows count = for_each (λ i. tlb_row_line i (row_at rows i)) count
 
 -- the TLB behind a run that left this world and ended in this way
 unfoldable pub tlb_text : World → Cache → RunEnd → List ℕ

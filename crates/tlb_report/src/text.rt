@@ -1,14 +1,13 @@
 //! The text of the TLB, line by line.
 ghost use Rattle.std.specs.Prelude.{◌≡◌, ◌++◌, length, OnOk, IfOk};
 ghost use Rattle.board_model.specs.Showing.{world_of};
-ghost use Rattle.r3k_tlb.specs.Rows.{row_count};
-ghost use Rattle.tlb_report.specs.Text.{fill_line, fill_lines, random_line, tlb_row_line, tlb_row_lines, tlb_text};
+ghost use Rattle.tlb_report.specs.Text.{fill_line, fill_lines, random_line, tlb_text};
 
 use aegis_calls::Board;
 use aegis_limits::OutOfMemory;
 use kernel_journal::RunEnd;
 use line_text::{Word, push_line, push_word};
-use r3k_tlb::{ROW_COUNT, Row, Tlb};
+use machine_text::push_row_lines;
 use run_report::push_end_line;
 use std::alloc::Global;
 use tlb_model::Fills;
@@ -29,7 +28,7 @@ fn push_fill_line(out: &mut Vec<u8>, env: u8, fills: Fills) -> Result<(), OutOfM
 }
 
 /// Appends the lines of the fills of each environment.
-#[tactic(auto, using(std::proofs::lemmas::Grind::common_steps, crate::proofs::Lines::for_each_more))]
+#[tactic(auto, using(std::proofs::lemmas::Grind::common_steps, machine_text::proofs::Series::for_each_more))]
 fn push_fill_lines(out: &mut Vec<u8>, board: &Board) -> Result<(), OutOfMemory>
     ensures { OnOk result (out.new.items ≡ out.old.items ++ fill_lines board.now.tlb.fills (world_of board.now).count) }
 {
@@ -45,30 +44,6 @@ fn push_random_line(out: &mut Vec<u8>, random: u8) -> Result<(), OutOfMemory>
     ensures { OnOk result (out.new.items ≡ out.old.items ++ random_line random) }
 {
     push_line(out, b"random", &[Word::Number(u64::from(random))])
-}
-
-/// Appends the line of a row.
-#[tactic(auto, unfolding(crate::specs::Text::tlb_row_line, line_text::specs::WrittenLine::line_of))]
-fn push_row_line(out: &mut Vec<u8>, i: u8, row: Row) -> Result<(), OutOfMemory>
-    ensures { OnOk result (out.new.items ≡ out.old.items ++ tlb_row_line i row) }
-{
-    let words = [
-        Word::Number(u64::from(i)),
-        Word::Hexadecimal(row.hi),
-        Word::Hexadecimal(row.lo),
-    ];
-    push_line(out, b"row", &words)
-}
-
-/// Appends the lines of all rows.
-#[tactic(auto, using(std::proofs::lemmas::Grind::common_steps, crate::proofs::Lines::for_each_more))]
-fn push_row_lines(out: &mut Vec<u8>, tlb: &Tlb) -> Result<(), OutOfMemory>
-    ensures { OnOk result (out.new.items ≡ out.old.items ++ tlb_row_lines tlb.now row_count) }
-{
-    for i in 0..ROW_COUNT as u8 {
-        push_row_line(out, i, tlb.read(i))?;
-    }
-    Ok(())
 }
 
 /// The TLB of a board whose run ended in this way (`docs/REPORT.md`): the refills of each environment, Random, and the

@@ -1,12 +1,13 @@
 -- The trace of an environment: a line for each tick in which it makes a step.
-use Rattle.std.specs.Prelude.{ℕ, ◌+◌, List, [], ◌∷◌, ◌++◌, codes, ◌==◌, if◌then◌else◌, ◌&&◌, nat_lt, Bool, Option, Some, None, Result, Ok, Err}
+use Rattle.std.specs.Prelude.{ℕ, List, [], ◌∷◌, ◌++◌, codes, if◌then◌else◌, ◌&&◌, nat_lt, Bool, Option, Some, None, Result, Ok, Err}
 use Rattle.external_event.specs.EventValue.{EventValue}
 use Rattle.line_text.specs.Text.{dec_text, hex_text}
 use Rattle.line_text.specs.WrittenLine.{line}
 use Rattle.boot_image.specs.ImageValue.{ImageValue}
+use Rattle.machine_text.specs.Differences.{differences}
+use Rattle.machine_text.specs.Series.{for_each}
 use Rattle.mips_exec.specs.declared.registers.Cpu.{Cpu}
 use Rattle.mips_exec.specs.declared.exception.Exc.{Exc}
-use Rattle.mips_exec.specs.Cpu.{reg}
 use Rattle.mips_exec.specs.Step.{fetched}
 use Rattle.mips_list.specs.WordText.{word_text}
 use Rattle.world_model.specs.Book.{is_runner}
@@ -15,7 +16,7 @@ use Rattle.world_model.specs.Page.{answers_by}
 use Rattle.world_model.specs.Solo.{Solo, is_dead, sight}
 use Rattle.world_model.specs.World.{World}
 use Rattle.run_model.specs.Run.{System, end_of_run, next_world, world_after}
-use Rattle.run_report.specs.Report.{end_line, for_each}
+use Rattle.run_report.specs.Report.{end_line}
 use Rattle.aegis_tick.specs.Halves.{mid}
 
 abbrev pub word_answered : Result ℕ Exc → Option ℕ
@@ -30,25 +31,6 @@ next_word s = word_answered (fetched (answers_by (sight s)) s.cpu.pc)
 abbrev pub word_words : ℕ → Option ℕ → List (List ℕ)
 word_words address None = codes "--------" ∷ codes "fetch" ∷ []
 word_words address (Some word) = hex_text 8 word ∷ word_text word address ∷ []
-
--- a register that differs, and what it holds then
-abbrev pub difference : List ℕ → ℕ → ℕ → List (List ℕ)
-difference name before after = if before == after then [] else name ∷ hex_text 8 after ∷ []
-
--- the register after register i
-abbrev pub register_difference : Cpu → Cpu → ℕ → List (List ℕ)
-register_difference before after i =
-    difference (codes "$" ++ dec_text (i + 1)) (reg before (i + 1)) (reg after (i + 1))
-
--- registers 1 to 31, where they differ
-unfoldable pub register_differences : Cpu → Cpu → List (List ℕ)
-register_differences before after = for_each (register_difference before after) 31
-
--- these, HI and LO, where they differ
-unfoldable pub differences : Cpu → Cpu → List (List ℕ)
-differences before after =
-    register_differences before after
-    ++ difference (codes "hi") before.hi after.hi ++ difference (codes "lo") before.lo after.lo
 
 -- what a tick left of an environment that had these registers: that it is dead, or what differs
 abbrev pub outcome_words : Cpu → Solo → List (List ℕ)

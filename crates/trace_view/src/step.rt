@@ -1,24 +1,22 @@
 //! The line of a step.
-ghost use Rattle.std.specs.Prelude.{◌≡◌, ◌++◌, ◌∷◌, ◌<◌, ◌+◌, ◌≤◌, OnOk, Some};
+ghost use Rattle.std.specs.Prelude.{◌≡◌, ◌++◌, ◌∷◌, ◌<◌, ◌+◌, OnOk, Some};
 ghost use Rattle.std.specs.List.{flat_map};
 ghost use Rattle.line_text.specs.Text.{dec_text, hex_text};
 ghost use Rattle.line_text.specs.WrittenLine.{spaced};
 ghost use Rattle.world_model.specs.Book.{running};
 ghost use Rattle.board_model.specs.Showing.{world_of};
 ghost use Rattle.aegis_tick.specs.OnCourse.{IsMidway, IsOn, system_of};
-ghost use Rattle.trace_view.specs.Trace.{difference, differences, outcome_words, register_difference, register_differences, step_line, word_words};
+ghost use Rattle.trace_view.specs.Trace.{outcome_words, step_line, word_words};
 
 use crate::fetch::next_word;
 use aegis_calls::Board;
 use aegis_limits::OutOfMemory;
 use aegis_tick::Course;
 use line_text::{Word, end_line, push_spaced, push_word};
+use machine_text::push_differences;
 use mips_exec::Cpu;
 use mips_list::push_word_text;
 use world_model::{Life, WorldView};
-
-/// The registers after register 0.
-const SHOWN_REGISTERS: u8 = 31;
 
 /// Appends the word that stands at an address, and its instruction; or that its fetch is refused.
 fn push_fetch(out: &mut Vec<u8>, address: u32, word: Option<u32>) -> Result<(), OutOfMemory>
@@ -44,63 +42,6 @@ fn push_head(
     push_word(out, Word::Number(u64::from(time)))?;
     push_spaced(out, Word::Hexadecimal(address))?;
     push_fetch(out, address, word)
-}
-
-/// Appends what a register of this name holds, if it differs.
-fn push_difference(
-    out: &mut Vec<u8>,
-    name: &[u8],
-    before: u32,
-    after: u32,
-) -> Result<(), OutOfMemory>
-    ensures { OnOk result (out.new.items ≡ out.old.items ++ flat_map spaced (difference name.now before after)) }
-{
-    if before == after {
-        return Ok(());
-    }
-    push_spaced(out, Word::Text(name))?;
-    push_spaced(out, Word::Hexadecimal(after))
-}
-
-/// Appends what the register after a register holds, if it differs.
-fn push_register(
-    out: &mut Vec<u8>,
-    before: &Cpu,
-    after: &Cpu,
-    behind: u8,
-) -> Result<(), OutOfMemory>
-    requires { behind < 31 }
-    ensures { OnOk result (out.new.items ≡ out.old.items ++ flat_map spaced (register_difference before.now after.now behind)) }
-{
-    let register = behind + 1;
-    let value = after.reg(register);
-    if before.reg(register) == value {
-        return Ok(());
-    }
-    push_word(out, Word::Text(b" $"))?;
-    push_word(out, Word::Number(u64::from(register)))?;
-    push_spaced(out, Word::Hexadecimal(value))
-}
-
-/// Appends registers 1 to 31, where they differ.
-#[tactic(auto, using(std::proofs::lemmas::Grind::common_steps, crate::proofs::Steps::words_more), unfolding(crate::specs::Trace::register_differences))]
-fn push_registers(out: &mut Vec<u8>, before: &Cpu, after: &Cpu) -> Result<(), OutOfMemory>
-    ensures { OnOk result (out.new.items ≡ out.old.items ++ flat_map spaced (register_differences before.now after.now)) }
-{
-    for behind in 0..SHOWN_REGISTERS {
-        push_register(out, before, after, behind)?;
-    }
-    Ok(())
-}
-
-/// Appends these, HI and LO, where they differ.
-#[tactic(auto, using(crate::proofs::Steps::three_parts), unfolding(crate::specs::Trace::differences))]
-fn push_differences(out: &mut Vec<u8>, before: &Cpu, after: &Cpu) -> Result<(), OutOfMemory>
-    ensures { OnOk result (out.new.items ≡ out.old.items ++ flat_map spaced (differences before.now after.now)) }
-{
-    push_registers(out, before, after)?;
-    push_difference(out, b"hi", before.hi, after.hi)?;
-    push_difference(out, b"lo", before.lo, after.lo)
 }
 
 /// Appends what a tick left of an environment that had these registers.

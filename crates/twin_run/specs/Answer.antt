@@ -4,7 +4,8 @@ use Rattle.std.specs.Option.{option_map_or, option_or}
 use Rattle.world_model.specs.Item.{Item}
 use Rattle.run_model.specs.Run.{System, feed, world_after}
 use Rattle.run_model.specs.Slices.{slices}
-use Rattle.run_report.specs.Report.{env_text, fingerprint}
+use Rattle.machine_text.specs.Fingerprint.{fingerprint}
+use Rattle.run_report.specs.Report.{env_text}
 use Rattle.feed_log.specs.Views.{item_seen}
 use Rattle.twin_run.specs.declared.answer.Side.TheVariants as side
 use Rattle.twin_run.specs.declared.answer.TwinAnswer.{TwinAnswer}

@@ -6,7 +6,7 @@ use Rattle.run_model.specs.Run.{System, feed}
 use Rattle.run_model.specs.Slices.{IsEndOf, slices}
 use Rattle.feed_log.specs.Views.{item_seen}
 use Rattle.feed_log.specs.Progress.{IsOver, Progress, at_boot, ended, unread}
-use Rattle.run_report.specs.Report.{fingerprint}
+use Rattle.machine_text.specs.Fingerprint.{fingerprint}
 use Rattle.twin_run.specs.declared.answer.TwinAnswer.{TwinAnswer}
 use Rattle.twin_run.specs.declared.answer.TwinAnswer.TheVariants.{FeedsDiffer, Same}
 use Rattle.twin_run.specs.declared.difference.Difference.{Difference}

@@ -3,7 +3,8 @@ use Rattle.std.specs.Prelude.{ℕ, List, [], ◌∷◌, ◌++◌, Bool, ◌==◌
 use Rattle.std.specs.List.{flat_map}
 use Rattle.line_text.specs.Text.{dec_text}
 use Rattle.line_text.specs.WrittenLine.{bytes_text, or_dash, spaced}
-use Rattle.run_report.specs.Report.{fingerprint, mode_text}
+use Rattle.machine_text.specs.Fingerprint.{fingerprint}
+use Rattle.run_report.specs.Report.{mode_text}
 use Rattle.world_model.specs.Call.{any}
 use Rattle.feed_log.specs.declared.view.ItemKind.{ItemKind}
 use Rattle.feed_log.specs.declared.view.ItemKind.TheVariants as kind

@@ -1,6 +1,6 @@
 //! What is answered of two runs.
 use crate::item_text::ItemText;
-use run_report::FINGERPRINT_SIZE;
+use machine_text::FINGERPRINT_SIZE;
 
 /// One of two runs.
 #[derive(Clone, Copy)]

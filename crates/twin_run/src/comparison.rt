@@ -12,7 +12,8 @@ use crate::course::{read_same, slices_short};
 use crate::difference::{Difference, next_difference};
 use aegis_limits::OutOfMemory;
 use feed_log::ToldRun;
-use run_report::{env_lines, fingerprint};
+use machine_text::fingerprint;
+use run_report::env_lines;
 use std::alloc::Global;
 
 /// The first difference of what two runs give up to the end of so many slices, if there is one. Neither run goes on

@@ -4,14 +4,15 @@ ghost use Rattle.std.specs.List.{flat_map};
 ghost use Rattle.line_text.specs.Text.{dec_text};
 ghost use Rattle.line_text.specs.WrittenLine.{bytes_text, spaced, text_of};
 ghost use Rattle.line_text.specs.declared.line_writing.Word.TheVariants.{Number};
-ghost use Rattle.run_report.specs.Report.{fingerprint, mode_text};
+ghost use Rattle.machine_text.specs.Fingerprint.{fingerprint};
+ghost use Rattle.run_report.specs.Report.{mode_text};
 ghost use Rattle.feed_log.specs.Log.{shown};
 ghost use Rattle.twin_run.specs.ItemText.{is_alike, item_text, kind_name, page_or_dash, words_behind};
 
 use aegis_limits::OutOfMemory;
 use feed_log::{ItemKind, ItemView};
 use line_text::{Word, push_spaced, push_word};
-use run_report::fingerprint;
+use machine_text::fingerprint;
 use std::alloc::Global;
 use std::marker::Model;
 

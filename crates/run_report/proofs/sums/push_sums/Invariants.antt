@@ -1,5 +1,6 @@
 use Rattle.std.proofs.Common.{◌≡◌, ◌++◌}
-use Rattle.run_report.specs.Report.{sum_line, for_each}
+use Rattle.machine_text.specs.Series.{for_each}
+use Rattle.run_report.specs.Report.{sum_line}
 use Rattle.run_report.proofs.sums.push_sums.Given as goal
 
 abbrev pub invariant-loop-env : goal.invariant-loop-env

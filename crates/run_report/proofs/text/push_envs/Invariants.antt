@@ -1,5 +1,6 @@
 use Rattle.std.proofs.Common.{◌≡◌, ◌++◌}
-use Rattle.run_report.specs.Report.{env_text, for_each}
+use Rattle.machine_text.specs.Series.{for_each}
+use Rattle.run_report.specs.Report.{env_text}
 use Rattle.run_report.proofs.text.push_envs.Given as goal
 
 abbrev pub invariant-loop-env : goal.invariant-loop-env

@@ -1,0 +1,5 @@
+pub mod Differences
+pub mod Fingerprint
+pub mod Registers
+pub mod RowLines
+pub mod Series
