@@ -1,15 +1,14 @@
 //! What the words of a manifest's lines mean, if they are in their ranges.
-ghost use Rattle.std.specs.Prelude.{◌≡◌, ◌≤◌, ◌<◌, Option, length, true, IfOk, IfSome, IsTrue};
-ghost use Rattle.std.specs.List.{AllByRecursion, list_all};
+ghost use Rattle.std.specs.Prelude.{◌≡◌, ◌≤◌, ◌<◌, Option, length, IfOk, IfSome, IsTrue};
+ghost use Rattle.std.specs.List.{AllByRecursion};
 ghost use Rattle.std.specs.Option.{option_copied, option_map};
 ghost use Rattle.aegis_limits.specs.Limits.{most_stack_pages};
 ghost use Rattle.aegis_limits.specs.VersionLimits.{most_environments_of};
 ghost use Rattle.boot_image.specs.Accepted.{IsOwnerBelow};
 ghost use Rattle.boot_image.specs.ImageFaults.{is_name};
-ghost use Rattle.line_text.specs.Characters.{is_text_byte};
 ghost use Rattle.line_text.specs.WordView.{words_seen};
 ghost use Rattle.boot_manifest.specs.Ranges.{entry_in, manifest_kind, manifest_name, manifest_version, owner_in, owners_in, program_in};
-ghost use Rattle.boot_manifest.specs.Answers.{parts_seen};
+ghost use Rattle.boot_manifest.specs.Answers.{IsText, parts_seen};
 
 use crate::manifest::ManifestEntry;
 use crate::statement::EnvParts;
@@ -114,7 +113,7 @@ pub(crate) fn entry_of(
     alloc: Global,
     parts: &EnvParts<'_>,
 ) -> Result<Option<ManifestEntry>, AllocError>
-    requires { list_all is_text_byte parts.now.file.now ≡ true }
+    requires { IsText parts.now.file.now }
     ensures { IfOk result (λ found. found ≡ entry_in (parts_seen parts.now)) }
 {
     let Some(entry) = program_of(parts) else {

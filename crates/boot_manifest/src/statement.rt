@@ -1,13 +1,11 @@
 //! The forms of a manifest's lines.
-ghost use Rattle.std.specs.Prelude.{◌≡◌, ◌≤◌, true, length, IfSome};
-ghost use Rattle.std.specs.List.{list_all};
+ghost use Rattle.std.specs.Prelude.{◌≡◌, ◌≤◌, length, IfSome};
 ghost use Rattle.std.specs.Option.{option_and_then, option_copied, option_map};
 ghost use Rattle.aegis_limits.specs.Limits.{most_slots};
-ghost use Rattle.line_text.specs.Characters.{is_text_byte};
 ghost use Rattle.line_text.specs.Words.{line_words};
 ghost use Rattle.line_text.specs.WordView.{words_seen};
 ghost use Rattle.boot_manifest.specs.Forms.{count_form, env_form, program_form, slots_form};
-ghost use Rattle.boot_manifest.specs.Answers.{parts_seen};
+ghost use Rattle.boot_manifest.specs.Answers.{AreTexts, IsText, parts_seen};
 
 use aegis_limits::MOST_SLOTS;
 use line_text::few_words;
@@ -48,7 +46,7 @@ pub(crate) fn count_word<'a>(key: &[u8], text: &'a [u8]) -> Option<&'a [u8]>
 #[tactic(auto, using(crate::proofs::ReadingLemmas::few_env))]
 pub(crate) fn env_parts(text: &[u8]) -> Option<EnvParts<'_>>
     ensures parts { option_map parts_seen result ≡ option_and_then env_form (line_words text.now) }
-    ensures bytes { IfSome result (λ parts. list_all is_text_byte parts.file.now ≡ true) }
+    ensures bytes { IfSome result (λ parts. IsText parts.file.now) }
 {
     match few_words::<MOST_WORDS>(text)?.as_slice() {
         [first, words @ ..] if *first == ENV => program_form(words),
@@ -73,7 +71,7 @@ pub(crate) fn slots_form<'w, 'a>(words: &'w [&'a [u8]]) -> Option<&'w [&'a [u8]]
 /// The words of `NAME flat BASE STACK ACCEPT FILE` or `NAME elf STACK ACCEPT FILE`.
 fn program_form<'a>(words: &[&'a [u8]]) -> Option<EnvParts<'a>>
     ensures parts { option_map parts_seen result ≡ program_form (words_seen words.now) }
-    ensures bytes { list_all (list_all is_text_byte) (words_seen words.now) ≡ true → IfSome result (λ parts. list_all is_text_byte parts.file.now ≡ true) }
+    ensures bytes { AreTexts (words_seen words.now) → IfSome result (λ parts. IsText parts.file.now) }
 {
     match words {
         [name, kind, base, stack, accept, file] if *kind == FLAT => Some(EnvParts {

@@ -3,3 +3,4 @@ mod Releasing
 mod Everywhere
 mod Scanning
 mod Judging
+mod Shares

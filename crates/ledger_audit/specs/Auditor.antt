@@ -43,10 +43,14 @@ pub record IsCounted (most : ℕ) (a : State) : Type 0 where
   pub overs : (e : ℕ) → slice_index a.overs e ≤ most
 
 -- Whether a row fits, by how many rows are due: each of them does, since it was seen with the row that asks for it.
-abbrev pub fits_by_kind : ℕ → ℕ → LedgerState → Row → List Row → Bool
-fits_by_kind left quantum s (row.Own t slot owner holder) later =
+abbrev pub own_fits : ℕ → LedgerState → Row → Bool
+own_fits left s (row.Own t slot owner holder) =
     if s.at_boot then is_behind s.last_slot slot && same_number owner holder
     else nat_lt 0 left || is_change s s.runner t slot (row.Own t slot owner holder)
+own_fits left s r = false
+
+abbrev pub fits_by_kind : ℕ → ℕ → LedgerState → Row → List Row → Bool
+fits_by_kind left quantum s (row.Own t slot owner holder) later = own_fits left s (row.Own t slot owner holder)
 fits_by_kind left quantum s r later = is_fit_by_kind quantum s r later
 
 abbrev pub fits : ℕ → ℕ → ℕ → LedgerState → Row → List Row → Bool

@@ -1,13 +1,14 @@
 -- What the auditor's yes is worth: it is given exactly where a ledger keeps the rules.
-use Rattle.std.specs.Prelude.{◌≡◌, ℕ, List, [], ◌∷◌, Bool, true, ◌&&◌, Option, None}
+use Rattle.std.specs.Prelude.{◌≡◌, ◌≤◌, ◌%◌, ℕ, List, [], ◌∷◌, Bool, true, ◌&&◌, Option, None}
 use Rattle.kernel_journal.specs.declared.row.Row.{Row}
 use Rattle.ledger_audit.specs.LedgerState.{first_state, state_after}
 use Rattle.ledger_audit.specs.RowRules.{are_fit, is_end}
 use Rattle.ledger_text.specs.LedgerText.{LedgerValue}
+use Rattle.ledger_text.specs.Limits.{most_share}
 use Rattle.ledger_text.specs.PlanText.{PlanValue}
 use Rattle.ledger_audit.specs.declared.answer.AuditAnswer.TheVariants.{Clean}
 use Rattle.ledger_audit.specs.Answer.{audit_of, first_wrong_sum, rows_of}
-use Rattle.ledger_audit.specs.StrideRule.{gifts_with, keeps_plan, no_gifts}
+use Rattle.ledger_audit.specs.StrideRule.{gifts_with, keeps_plan, no_gifts, stride_unit}
 
 -- rows that all keep to a plan, behind so many gifts
 abbrev pub keep_plan : Option PlanValue → (ℕ → ℕ) → List Row → Bool
@@ -30,3 +31,6 @@ abbrev pub KeptIsClean : Type 0
 KeptIsClean =
     (quantum : ℕ) (plan : Option PlanValue) (ledger : LedgerValue) → KeepsRules quantum plan ledger →
     audit_of quantum plan ledger ≡ Clean
+
+abbrev pub SharesDivideUnit : Type 0
+SharesDivideUnit = (share : ℕ) → 1 ≤ share → share ≤ most_share → stride_unit % share ≡ 0

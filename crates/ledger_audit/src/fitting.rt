@@ -6,7 +6,7 @@ ghost use Rattle.ledger_audit.specs.RowRules.{dies_next, is_behind, is_judged, s
 ghost use Rattle.kernel_journal.specs.RowTable.{IsRowWithin};
 ghost use Rattle.world_model.specs.SlotCalls.{dropped, held_by, slot_row};
 ghost use Rattle.ledger_audit.specs.Answer.{rows_of};
-ghost use Rattle.ledger_audit.specs.Auditor.{fits, fits_by_kind, is_runners_change, state_of};
+ghost use Rattle.ledger_audit.specs.Auditor.{fits, fits_by_kind, is_runners_change, own_fits, state_of};
 
 use crate::slots::{holds, is_slot_row, own_hold, released_stand, same_number};
 use crate::state::State;
@@ -30,48 +30,32 @@ fn fits_by_kind(state: &State, quantum: u32, row: &Row, later: &[(u32, Row)]) ->
     requires within { IsRowWithin row.now }
     ensures { result ≡ fits_by_kind state.now.due quantum (state_of state.now) row.now (rows_of later.now) }
 {
+    let time = row.time();
     match *row {
-        Row::Own {
-            slot,
-            owner,
-            holder,
-            ..
-        } => {
-            if state.at_boot {
-                is_behind(state.last_slot, slot) && same_number(owner, holder)
-            } else {
-                0 < state.due || is_change(state, row)
-            }
-        }
-        Row::Run { time, slot, env } => {
+        Row::Own { .. } => fits_as_own(state, row),
+        Row::Run { slot, env, .. } => {
             is_next(state, time, slot, env) && excess_in(state, env) == 0
         }
-        Row::Pay { time, slot, env } => is_next(state, time, slot, env)
-            && 0 < excess_in(state, env),
+        Row::Pay { slot, env, .. } => is_next(state, time, slot, env) && 0 < excess_in(state, env),
         Row::Give { slot, from, to, .. } | Row::Async { slot, from, to, .. } => {
             is_gift(state, slot, from, to)
         }
-        Row::Sync {
-            time,
-            slot,
-            from,
-            to,
-        } => {
+        Row::Sync { slot, from, to, .. } => {
             let held = state.slots[slot as usize];
             is_gift(state, slot, from, to)
                 && holds(from, held)
                 && is_handed_on(held, time, slot, to, later)
         }
-        Row::End { time, slot, env } => {
+        Row::End { slot, env, .. } => {
             is_runners(state, slot, env)
                 && matches!(state.phase, Phase::Own)
                 && u64::from(time) == limit_in(state, quantum)
         }
         Row::Over {
-            time,
             slot,
             env,
             excess,
+            ..
         } => {
             is_runners(state, slot, env)
                 && matches!(state.phase, Phase::Grace)
@@ -80,11 +64,33 @@ fn fits_by_kind(state: &State, quantum: u32, row: &Row, later: &[(u32, Row)]) ->
                 && is_judged(time, env, excess, later)
         }
         Row::Stop { slot, env, .. } => is_runners(state, slot, env),
-        Row::Dead { time, slot, env } => {
+        Row::Dead { slot, env, .. } => {
             is_runners(state, slot, env) && released_stand(&state.slots, time, env, later)
         }
         // The others may stand anywhere.
         _ => true,
+    }
+}
+
+/// Whether an `own` row fits: at boot with a slot that rises, and later as one that is due, or as a change that the runner
+/// makes.
+fn fits_as_own(state: &State, row: &Row) -> bool
+    requires { IsRowWithin row.now }
+    ensures { result ≡ own_fits state.now.due (state_of state.now) row.now }
+{
+    let Row::Own {
+        slot,
+        owner,
+        holder,
+        ..
+    } = *row
+    else {
+        return false;
+    };
+    if state.at_boot {
+        is_behind(state.last_slot, slot) && same_number(owner, holder)
+    } else {
+        0 < state.due || is_change(state, row)
     }
 }
 

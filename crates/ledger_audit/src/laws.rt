@@ -1,9 +1,11 @@
 //! What the auditor's yes is worth.
-ghost use Rattle.ledger_audit.specs.Laws.{CleanKeepsRules, KeptIsClean};
+ghost use Rattle.ledger_audit.specs.Laws.{CleanKeepsRules, KeptIsClean, SharesDivideUnit};
 
 /// A ledger is clean exactly where each row fits by the rules over the whole list of rows and keeps to the plan, each sum
 /// counts right, and the end fits.
 pub fn law_audit()
     ensures clean { CleanKeepsRules }
     ensures kept { KeptIsClean }
+    // So a client's pass is a whole number, whatever its share.
+    ensures shares { SharesDivideUnit }
 {}

@@ -1,5 +1,6 @@
 //! What the auditor keeps of the rows that it has read.
-ghost use Rattle.std.specs.Prelude.{◌≡◌, ◌<◌, ◌≤◌, ◌^◌};
+ghost use Rattle.std.specs.Prelude.{◌≡◌, ◌<◌, ◌-◌, ◌^◌, None, Some};
+ghost use Rattle.world_model.specs.declared.slot.Phase.TheVariants.{Grace, Own};
 ghost use Rattle.ledger_audit.specs.LedgerState.{first_state, hold_of};
 ghost use Rattle.kernel_journal.specs.RowTable.{IsRowWithin};
 ghost use Rattle.ledger_audit.specs.Auditor.{state_of};
@@ -81,12 +82,9 @@ impl State {
         ensures state { state_of self.new ≡ undue (after_row row.now (state_of self.old)) }
         ensures due { self.new.due ≡ due_left row.now self.old.due (state_of self.old) }
     {
+        self.due = self.due_left(row);
         self.time = row.time();
-        let left = self.due;
-        self.due = 0;
-        if !matches!(row, Row::Own { .. }) {
-            self.at_boot = false;
-        }
+        self.at_boot = self.at_boot && matches!(row, Row::Own { .. });
         match *row {
             Row::Own {
                 slot,
@@ -94,49 +92,72 @@ impl State {
                 holder,
                 ..
             } => {
-                self.due = left.saturating_sub(1);
                 self.slots[slot as usize] = hold_of(owner, holder);
                 self.last_slot = Some(slot);
             }
             Row::Run { time, slot, env } => {
-                self.cursor = slot;
                 self.runs[env as usize] += 1;
-                self.runner = Some(env);
-                self.phase = Phase::Own;
-                self.slice_start = time;
+                self.begin_slice(time, slot, env);
             }
             Row::Pay { slot, env, .. } => {
                 self.cursor = slot;
                 self.pays[env as usize] += 1;
             }
-            Row::Give { to, .. } | Row::Async { to, .. } => {
+            Row::Give { to, .. } | Row::Async { to, .. } | Row::Sync { to, .. } => {
                 self.runner = Some(to);
             }
-            Row::Sync { to, .. } => {
-                self.due = 1;
-                self.runner = Some(to);
-            }
-            Row::End { time, .. } => {
-                self.phase = Phase::Grace;
-                self.grace_start = time;
-            }
+            Row::End { time, .. } => self.begin_grace(time),
             Row::Over { time, env, .. } => {
                 self.overs[env as usize] += 1;
                 self.grace_start = time;
             }
-            Row::Stop { time, .. } => {
-                self.runner = None;
-                self.turn = time + 1;
-            }
+            Row::Stop { time, .. } => self.stop(time),
             Row::Dead { time, env, .. } => {
-                self.due = released_count(&self.slots, time, env);
-                self.runner = None;
-                self.turn = time + 1;
                 self.dead[env as usize] = true;
+                self.stop(time);
             }
             // The others say nothing of slices.
             _ => {}
         }
+    }
+
+    /// How many `own` rows are due behind a row.
+    fn due_left(&self, row: &Row) -> usize
+        ensures { result ≡ due_left row.now self.now.due (state_of self.now) }
+    {
+        match *row {
+            Row::Own { .. } => self.due.saturating_sub(1),
+            Row::Sync { .. } => 1,
+            Row::Dead { time, env, .. } => released_count(&self.slots, time, env),
+            _ => 0,
+        }
+    }
+
+    /// An environment's slice begins, in its turn.
+    fn begin_slice(&mut self, time: u32, slot: u32, env: u8)
+        ensures { self.new ≡ record self.old { cursor = slot; runner = Some env; phase = Own; slice_start = time } }
+    {
+        self.cursor = slot;
+        self.runner = Some(env);
+        self.phase = Phase::Own;
+        self.slice_start = time;
+    }
+
+    /// The runner's slice is over, and its grace begins.
+    fn begin_grace(&mut self, time: u32)
+        ensures { self.new ≡ record self.old { phase = Grace; grace_start = time } }
+    {
+        self.phase = Phase::Grace;
+        self.grace_start = time;
+    }
+
+    /// Nobody runs from the next tick on.
+    fn stop(&mut self, time: u32)
+        requires { time < 2 ^ 32 - 1 }
+        ensures { self.new ≡ record self.old { runner = None; turn = time + 1 } }
+    {
+        self.runner = None;
+        self.turn = time + 1;
     }
 }
 
