@@ -4,11 +4,11 @@ ghost use Rattle.aegis_limits.specs.Limits.{environment_numbers, most_slots};
 ghost use Rattle.kernel_journal.specs.declared.row.Row.TheVariants as row;
 ghost use Rattle.ledger_audit.specs.RowRules.{dies_next, is_behind, is_judged, stand_first};
 ghost use Rattle.kernel_journal.specs.RowTable.{IsRowWithin};
-ghost use Rattle.world_model.specs.SlotCalls.{dropped, held_by, slot_row};
+ghost use Rattle.world_model.specs.SlotCalls.{held_by, slot_row};
 ghost use Rattle.ledger_audit.specs.Answer.{rows_of};
 ghost use Rattle.ledger_audit.specs.Auditor.{fits, fits_by_kind, is_runners_change, own_fits, state_of};
 
-use crate::slots::{holds, is_slot_row, own_hold, released_stand, same_number};
+use crate::slots::{holds, is_slot_row, released_stand, same_number};
 use crate::state::State;
 use crate::turns::{excess_in, is_gift, is_in_time, is_next, is_runners, limit_in};
 use aegis_limits::EXCESS_LIMIT;
@@ -116,19 +116,8 @@ fn is_change(state: &State, row: &Row) -> bool
         return false;
     };
     match state.slots[slot as usize] {
-        None => is_slot_row(row, time, slot, Some(own_hold(env))),
-        Some(hold) => { hold.holder == env && is_slot_row(row, time, slot, dropped(env, hold)) }
-    }
-}
-
-/// What a slot has once an environment drops it.
-fn dropped(env: u8, hold: Hold) -> Option<Hold>
-    ensures { result ≡ dropped env (Some hold) }
-{
-    if hold.owner == env {
-        None
-    } else {
-        Some(own_hold(hold.owner))
+        None => is_slot_row(row, time, slot, Some(Hold::own(env))),
+        Some(hold) => { hold.is_held_by(env) && is_slot_row(row, time, slot, hold.dropped_by(env)) }
     }
 }
 
@@ -146,8 +135,7 @@ fn is_handed_on(held: Option<Hold>, time: u32, slot: u32, to: u8, later: &[(u32,
 fn held_by(holder: u8, held: Option<Hold>) -> Option<Hold>
     ensures { result ≡ option_map (held_by holder) held }
 {
-    let Hold { owner, .. } = held?;
-    Some(Hold { owner, holder })
+    Some(held?.held_by(holder))
 }
 
 /// Whether an excess above the limit, and no other, is followed by death.

@@ -2,7 +2,7 @@
 ghost use Rattle.std.specs.Prelude.{◌≡◌, false, length, IfNone, IfSome, slice_index_or};
 ghost use Rattle.ledger_audit.specs.LedgerState.{released_by};
 ghost use Rattle.ledger_audit.specs.RowRules.{are_empty, are_passed, is_between, is_row, same_number, stand_first};
-ghost use Rattle.world_model.specs.Book.{has_part, hold_without, own_hold};
+ghost use Rattle.world_model.specs.Book.{has_part, hold_without};
 ghost use Rattle.world_model.specs.Death.{released_row};
 ghost use Rattle.world_model.specs.SlotCalls.{holds, slot_row};
 ghost use Rattle.kernel_journal.specs.declared.row.Row.TheVariants.{Own};
@@ -30,7 +30,7 @@ pub(crate) fn holds(env: u8, slot: Option<Hold>) -> bool
     ensures { result ≡ holds env slot }
 {
     match slot {
-        Some(hold) => hold.holder == env,
+        Some(hold) => hold.is_held_by(env),
         None => false,
     }
 }
@@ -65,7 +65,7 @@ fn has_part(env: u8, slot: Option<Hold>) -> bool
     ensures { result ≡ has_part env slot }
 {
     match slot {
-        Some(hold) => hold.owner == env || hold.holder == env,
+        Some(hold) => hold.has_part(env),
         None => false,
     }
 }
@@ -74,22 +74,7 @@ fn has_part(env: u8, slot: Option<Hold>) -> bool
 fn hold_without(env: u8, slot: Option<Hold>) -> Option<Hold>
     ensures { result ≡ hold_without env slot }
 {
-    let hold = slot?;
-    if hold.owner == env {
-        return None;
-    }
-    if hold.holder == env {
-        return Some(own_hold(hold.owner));
-    }
-    Some(hold)
-}
-
-/// A slot that its owner holds.
-pub(crate) fn own_hold(owner: u8) -> Hold
-    ensures { result ≡ own_hold owner }
-{
-    let holder = owner;
-    Hold { owner, holder }
+    slot?.without(env)
 }
 
 /// How many slots change once an environment is gone.
