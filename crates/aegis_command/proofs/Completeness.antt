@@ -1,5 +1,6 @@
 -- From what holds by the status to what is written where no fault is met.
 use Rattle.std.proofs.Common.{◌≡◌, ◌≢◌, length, ℕ, List, [], ◌∷◌, ◌++◌, Option, Some, None, ◌⊎◌, inl, inr, sym, ◌∙◌, ap, refl, subst, take, IfSome, arith}
+use Rattle.std.specs.Prelude.{codes}
 use Rattle.boot_image.specs.ImageFaults.{image_fault}
 use Rattle.boot_image.specs.ImageValue.{image_of}
 use Rattle.boot_schedule.specs.Schedule.{events_of, schedule_fault}
@@ -17,7 +18,9 @@ use Rattle.std.specs.Io.KnownBytes.{Appends}
 use Rattle.std.specs.Option.{option_map}
 use Rattle.aegis_command.specs.Words.{command_of}
 use Rattle.aegis_command.specs.LoadSeed.{load_seed}
-use Rattle.aegis_command.specs.RunImage.{report_after, run_due, run_image}
+use Rattle.aegis_command.specs.Ranges.{ticks_of}
+use Rattle.aegis_command.specs.RunImage.{report_after, run_due, run_image, run_writing}
+use Rattle.aegis_command.specs.SystemDue.{FileNames, system_command}
 
 -- what is read of told files is what is told
 same_contents : (files : List ℕ → Option (List ℕ)) (names xs ys : List (List ℕ)) → AreRead (Some files) names xs → AreRead (Some files) names ys → xs ≡ ys
@@ -93,16 +96,23 @@ is_complete words s k result outcome c contents is told calm =
     ends c contents s k result (subst (λ (o : Option CommandValue). IfSome o (λ d. Outcome d s k result)) is outcome) told calm
 
 -- what is due for an image and a schedule without fault
-due_whole : (image_name schedule_name : List ℕ) (ticks : ℕ) (image schedule : List ℕ) → image_fault image ≡ None → schedule_fault schedule ≡ None → Some (run_due image_name schedule_name ticks image schedule) ≡ Some (Whole (report_after (image_of image) (events_of schedule) ticks))
-due_whole image_name schedule_name ticks image schedule image_ok schedule_ok = rw (image_ok, schedule_ok) refl
+due_whole : (names : FileNames) (ticks : ℕ) (image schedule : List ℕ) → image_fault image ≡ None → schedule_fault schedule ≡ None → Some (run_due names ticks image schedule) ≡ Some (Whole (report_after (image_of image) (events_of schedule) ticks))
+due_whole names ticks image schedule image_ok schedule_ok = rw (image_ok, schedule_ok) refl
+
+-- the words of a run are those of its command
+run_asked : (words : List (List ℕ)) (names : FileNames) (number : List ℕ) (ticks : ℕ) → words ≡ codes "run" ∷ names.image ∷ names.schedule ∷ number ∷ [] → ticks_of number ≡ Some ticks
+    → command_of words ≡ Some (run_image names ticks)
+run_asked words names number ticks are ticks_are =
+    ap command_of are ∙ ap (λ (t : Option ℕ). option_map (system_command names) (option_map run_writing t)) ticks_are
 
 -- the headline is completeness for an image and a schedule without fault
 pub is_headline : (words : List (List ℕ)) (s : ShelfEdge) (k : SinkEdge) (result : Status) → IfSome (command_of words) (λ c. Outcome c s k result) → IsHeadline words s k result
 is_headline words s k result outcome image_name schedule_name number ticks files image schedule are ticks_are told image_is schedule_is image_ok schedule_ok calm =
-    let is : command_of words ≡ Some (run_image image_name schedule_name ticks) = ap command_of are ∙ ap (option_map (run_image image_name schedule_name)) ticks_are in
-    let due = due_whole image_name schedule_name ticks image schedule image_ok schedule_ok in
+    let names : FileNames = record { image = image_name; schedule = schedule_name } in
+    let is = run_asked words names number ticks are ticks_are in
+    let due = due_whole names ticks image schedule image_ok schedule_ok in
     let read : AreTold s.told (image_name ∷ schedule_name ∷ []) (image ∷ schedule ∷ []) = subst (λ (t : Option (List ℕ → Option (List ℕ))). AreTold t (image_name ∷ schedule_name ∷ []) (image ∷ schedule ∷ [])) (sym told) (image_is, (schedule_is, tt)) in
-    subst (λ (d : Option Due). Ends d k result) due (is_complete (command_of words) s k result outcome (run_image image_name schedule_name ticks) (image ∷ schedule ∷ []) is read calm)
+    subst (λ (d : Option Due). Ends d k result) due (is_complete (command_of words) s k result outcome (run_image names ticks) (image ∷ schedule ∷ []) is read calm)
 
 -- what is read of two names is two contents
 two_contents : (told : Option (List ℕ → Option (List ℕ))) (one other : List ℕ) (contents : List (List ℕ)) → AreRead told (one ∷ other ∷ []) contents
@@ -113,10 +123,10 @@ two_contents told one other (a ∷ b ∷ []) read = (a, b, refl)
 two_contents told one other (a ∷ b ∷ c ∷ contents) read = absurd read.1.1
 
 -- what was written whole of a run is the report of what was read
-wrote_report : (image_name schedule_name : List ℕ) (ticks : ℕ) (s : ShelfEdge) (k : SinkEdge) (result : Status) (decided : Decided (run_image image_name schedule_name ticks) s)
-    → status_of decided.due ≡ result → IsWhole k (due_text decided.due) → WroteReport image_name schedule_name ticks s k result
-wrote_report image_name schedule_name ticks s k result decided settled whole =
-    let two = two_contents s.told image_name schedule_name decided.contents decided.read.read in
+wrote_report : (names : FileNames) (ticks : ℕ) (s : ShelfEdge) (k : SinkEdge) (result : Status) (decided : Decided (run_image names ticks) s)
+    → status_of decided.due ≡ result → IsWhole k (due_text decided.due) → WroteReport names.image names.schedule ticks s k result
+wrote_report names ticks s k result decided settled whole =
+    let two = two_contents s.told names.image names.schedule decided.contents decided.read.read in
     record {
       image = two.0;
       schedule = two.1;
@@ -124,7 +134,7 @@ wrote_report image_name schedule_name ticks s k result decided settled whole =
       contents_read = decided.read.got.contents_read ∙ ap (λ (contents : List (List ℕ)). s.before.contents ++ contents) two.2;
       report = λ image_ok schedule_ok.
           let text = report_after (image_of two.0) (events_of two.1) ticks in
-          let is : Some decided.due ≡ Some (Whole text) = sym decided.is_due ∙ ap (run_image image_name schedule_name ticks).due two.2 ∙ due_whole image_name schedule_name ticks two.0 two.1 image_ok schedule_ok in
+          let is : Some decided.due ≡ Some (Whole text) = sym decided.is_due ∙ ap (run_image names ticks).due two.2 ∙ due_whole names ticks two.0 two.1 image_ok schedule_ok in
           let one : decided.due ≡ Whole text = cc in
           (sym settled ∙ ap status_of one, subst (λ (d : Due). Appends k.written_before k.written_after (due_text d)) one whole.appended);
     }
@@ -132,10 +142,11 @@ wrote_report image_name schedule_name ticks s k result decided settled whole =
 -- the headline by what was read
 pub is_read_headline : (words : List (List ℕ)) (s : ShelfEdge) (k : SinkEdge) (result : Status) → IfSome (command_of words) (λ c. Outcome c s k result) → IsReadHeadline words s k result
 is_read_headline words s k result outcome image_name schedule_name number ticks are ticks_are calm =
-    let is : command_of words ≡ Some (run_image image_name schedule_name ticks) = ap command_of are ∙ ap (option_map (run_image image_name schedule_name)) ticks_are in
-    let run = run_image image_name schedule_name ticks in
+    let names : FileNames = record { image = image_name; schedule = schedule_name } in
+    let is = run_asked words names number ticks are ticks_are in
+    let run = run_image names ticks in
     elim (wrote run s k result (subst (λ (o : Option CommandValue). IfSome o (λ c. Outcome c s k result)) is outcome) calm) as (λ w. WroteReport image_name schedule_name ticks s k result ⊎ IsWanting k result) [
-      | inl w ↦ inl (wrote_report image_name schedule_name ticks s k result w.0 w.1 w.2)
+      | inl w ↦ inl (wrote_report names ticks s k result w.0 w.1 w.2)
       | inr w ↦ inr w
     ]
 

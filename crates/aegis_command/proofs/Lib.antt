@@ -1,3 +1,2 @@
-mod Texts
 mod Pairing
 pub mod Completeness

@@ -14,7 +14,7 @@ use Rattle.commands.specs.Command.{content}
 use Rattle.commands.specs.Due.{Due, unless_refused}
 use Rattle.aegis_command.specs.Pairs.{IsMachine}
 use Rattle.aegis_command.specs.SystemFiles.{AreSound}
-use Rattle.aegis_command.specs.RunImage.{image_refused, schedule_refused}
+use Rattle.aegis_command.specs.SystemDue.{image_refused, schedule_refused}
 use Rattle.aegis_command.specs.WireMachines.{are_pairs, refusals}
 
 two_more : (xs : List (List ℕ)) (n : ℕ) → n + 1 < length xs → drop n xs ≡ get_or xs n [] ∷ get_or xs (n + 1) [] ∷ drop (n + 2) xs

@@ -1,7 +1,6 @@
 -- `audit REPORT QUANTUM` and `audit REPORT QUANTUM PLAN`: whether a report keeps the rules of the ledger.
-use Rattle.std.specs.Prelude.{ℕ, List, [], ◌∷◌, Option, Some, None, Result, Ok, Err, option_map, length, nat_le, ◌&&◌, if◌then◌else◌, codes}
-use Rattle.aegis_limits.specs.Limits.{least_quantum, most_quantum}
-use Rattle.line_text.specs.Number.{digits_number}
+use Rattle.std.specs.Prelude.{ℕ, List, [], ◌∷◌, Option, Some, None, Result, Ok, Err, option_map, length, codes}
+use Rattle.std.specs.Option.{option_copied}
 use Rattle.line_text.specs.Text.{dec_text}
 use Rattle.line_text.specs.WrittenLine.{line}
 use Rattle.line_text.specs.declared.failure.LineFault.{LineFault}
@@ -14,15 +13,8 @@ use Rattle.ledger_audit.specs.declared.answer.AuditAnswer.TheVariants.{Clean, Br
 use Rattle.ledger_audit.specs.Answer.{audit_of}
 use Rattle.commands.specs.Command.{CommandValue, content, no_further}
 use Rattle.commands.specs.Due.{Due, Found, Whole, refused}
-
--- a number that is a quantum
-abbrev pub as_quantum : Option ℕ → Option ℕ
-as_quantum None = None
-as_quantum (Some n) = if nat_le least_quantum n && nat_le n most_quantum then Some n else None
-
--- QUANTUM: one to ten decimal digits, within the limits of an image's quantum
-abbrev pub quantum_of : List ℕ → Option ℕ
-quantum_of word = as_quantum (digits_number 10 10 word)
+use Rattle.aegis_command.specs.Ranges.{quantum_of}
+use Rattle.aegis_command.specs.declared.audit_ledger.AuditLedger.{AuditLedger}
 
 -- how many rows keep the rules, or the line that breaks them first
 unfoldable pub ok_text : ℕ → List ℕ
@@ -67,6 +59,10 @@ audit_ledger report quantum plan = record {
   further = no_further;
   due = λ contents. Some (report_due report quantum plan (content contents 1) (ledger_read (content contents 0)));
 }
+
+-- the command that was read from words
+abbrev pub audit_seen : AuditLedger → CommandValue
+audit_seen c = audit_ledger c.report.now c.quantum.number (option_copied c.plan)
 
 -- the words behind `audit`
 abbrev pub audit_words : List (List ℕ) → Option CommandValue

@@ -12,7 +12,8 @@ use Rattle.commands.specs.Due.{Due, status_of, due_text, usage_text}
 use Rattle.commands.specs.Edges.{ShelfEdge, SinkEdge}
 use Rattle.commands.specs.Files.{AreTold, IsServed}
 use Rattle.aegis_command.specs.LoadSeed.{load_summary, seed_of}
-use Rattle.aegis_command.specs.RunImage.{report_after, ticks_of}
+use Rattle.aegis_command.specs.Ranges.{ticks_of}
+use Rattle.aegis_command.specs.RunImage.{report_after}
 
 -- neither count of faults rose in the call
 pub record NoFault (s : ShelfEdge) (k : SinkEdge) : Type 0 where

@@ -1,5 +1,8 @@
-pub mod RunImage
+pub mod Ranges
+pub mod SystemDue
 pub mod SystemFiles
+pub mod SystemCommand
+pub mod RunImage
 pub mod LoadSeed
 pub mod AuditLedger
 pub mod TlbImage
@@ -7,6 +10,7 @@ pub mod TraceEnv
 pub mod TwinSystems
 pub mod RunBare
 pub mod WireMachines
+pub mod WireCommand
 pub mod Pairs
 pub mod Words
 pub mod Headline

@@ -1,9 +1,8 @@
 -- The pairs of an image and a schedule that are read as machines.
-use Rattle.std.specs.Prelude.{◌≡◌, ℕ, ◌+◌, ◌*◌, ◌/◌, ◌<◌, List, [], ◌∷◌, Option, Vec, get_or, length, true}
+use Rattle.std.specs.Prelude.{◌≡◌, ℕ, ◌+◌, ◌*◌, ◌/◌, ◌<◌, List, [], Option, Vec, get_or, length, true}
 use Rattle.std.specs.Global.{Global}
-use Rattle.boot_image.specs.ImageFaults.{image_fault}
 use Rattle.boot_image.specs.ImageValue.{image_of}
-use Rattle.boot_schedule.specs.Schedule.{events_of, schedule_fault}
+use Rattle.boot_schedule.specs.Schedule.{events_of}
 use Rattle.external_event.specs.EventValue.{EventValue}
 use Rattle.external_event.specs.Order.{are_in_order}
 use Rattle.board_model.specs.Shown.{Shown}
@@ -13,9 +12,9 @@ use Rattle.run_model.specs.Boot.{boot_world}
 use Rattle.commands.specs.Command.{content}
 use Rattle.commands.specs.Due.{Due, unless_refused}
 use Rattle.commands.specs.Work.{Settles}
-use Rattle.aegis_command.specs.RunImage.{image_refused, schedule_refused}
+use Rattle.aegis_command.specs.SystemDue.{FileNames, system_refusals}
 use Rattle.aegis_command.specs.SystemFiles.{AreSound}
-use Rattle.aegis_command.specs.WireMachines.{refusals}
+use Rattle.aegis_command.specs.WireMachines.{refusals, reports_text}
 use Rattle.aegis_command.specs.declared.wire_machines.Pair.{Pair}
 use Rattle.aegis_command.specs.declared.wire_machines.Pair.TheVariants as pair
 use Rattle.aegis_command.specs.declared.wire_machines.Pairs.{Pairs}
@@ -29,18 +28,17 @@ pub record IsMachine (program plan : List ℕ) (b : Shown) (list : List EventVal
   pub ordered : are_in_order 0 list ≡ true
 
 -- two files are a machine, or the first that has a fault is refused, whatever else is due
-abbrev pub IsPair : (image_name schedule_name image schedule : List ℕ) → Pair → Type 0
-IsPair image_name schedule_name image schedule (pair.Refused answer) =
+abbrev pub IsPair : FileNames → (image schedule : List ℕ) → Pair → Type 0
+IsPair names image schedule (pair.Refused answer) =
     (others : List (Option Due)) (due : Due)
-    → Settles (unless_refused (image_refused image_name (image_fault image) ∷ schedule_refused schedule_name
-    (schedule_fault schedule) ∷ others) due) answer
-IsPair image_name schedule_name image schedule (pair.Sound board events) =
+    → Settles (unless_refused (system_refusals names image schedule others) due) answer
+IsPair names image schedule (pair.Sound board events) =
     AreSound image schedule × IsMachine image schedule board events.items
 
 -- so it is with the pair of this number
 abbrev pub IsPairAt : (names contents : List (List ℕ)) → ℕ → Pair → Type 0
 IsPairAt names contents i =
-    IsPair (get_or names (2 * i) []) (get_or names (2 * i + 1) [])
+    IsPair (record { image = get_or names (2 * i) []; schedule = get_or names (2 * i + 1) [] })
     (content contents (2 * i)) (content contents (2 * i + 1))
 
 -- each pair of files is a machine
@@ -59,3 +57,8 @@ ArePairs names contents (pairs.Sound machines) =
     ((due : Due) → unless_refused (refusals names contents) due ≡ due)
     × AreMachines contents machines.boards.items machines.schedules.items
     × (length machines.boards.items ≡ length contents / 2)
+
+-- the reports of these boards after so many ticks
+abbrev pub AreReports : List Shown → ℕ → List ℕ → Type 0
+AreReports boards ticks text =
+    (b : Shown) → text ≡ reports_text (λ i. world_of (get_or boards i b)) (length boards) ticks

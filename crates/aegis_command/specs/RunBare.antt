@@ -6,7 +6,8 @@ use Rattle.bare_board.specs.Faults.{bare_fault, bare_fault_name, bare_fault_plac
 use Rattle.bare_board.specs.Run.{bare_text_of}
 use Rattle.commands.specs.Command.{CommandValue, content, no_further}
 use Rattle.commands.specs.Due.{Due, Whole, refused, unless_refused}
-use Rattle.aegis_command.specs.RunImage.{ticks_of}
+use Rattle.aegis_command.specs.Ranges.{ticks_of}
+use Rattle.aegis_command.specs.declared.run_bare.RunBare.{RunBare}
 
 -- a file with this fault is refused
 abbrev pub bare_refused : List ℕ → Option BareFault → Option Due
@@ -23,6 +24,10 @@ run_bare file ticks period = record {
   further = no_further;
   due = λ contents. Some (bare_due file (content contents 0) ticks period);
 }
+
+-- the command that was read from words
+abbrev pub bare_seen : RunBare → CommandValue
+bare_seen c = run_bare c.file.now c.ticks.number c.period.number
 
 -- the words behind `bare`: PERIOD has the limit of TICKS
 abbrev pub bare_words : List (List ℕ) → Option CommandValue

@@ -1,5 +1,5 @@
 -- An image and a schedule that are read as a system.
-use Rattle.std.specs.Prelude.{◌≡◌, List, ◌∷◌, Option, None, ℕ, true}
+use Rattle.std.specs.Prelude.{◌≡◌, List, Option, None, ℕ, true}
 use Rattle.boot_image.specs.ImageFaults.{image_fault}
 use Rattle.boot_image.specs.ImageValue.{ImageValue, image_of}
 use Rattle.boot_schedule.specs.Schedule.{events_of, schedule_fault}
@@ -7,9 +7,14 @@ use Rattle.external_event.specs.EventValue.{EventValue}
 use Rattle.external_event.specs.Order.{are_in_order}
 use Rattle.commands.specs.Due.{Due, unless_refused}
 use Rattle.commands.specs.Work.{Settles}
-use Rattle.aegis_command.specs.RunImage.{image_refused, schedule_refused}
+use Rattle.aegis_command.specs.SystemDue.{FileNames, system_refusals}
 use Rattle.aegis_command.specs.declared.system_files.SystemFiles.{SystemFiles}
 use Rattle.aegis_command.specs.declared.system_files.SystemFiles.TheVariants as files
+use Rattle.aegis_command.specs.declared.system_files.SystemNames.{SystemNames}
+
+-- the names that were read from words
+abbrev pub names_seen : SystemNames → FileNames
+names_seen names = record { image = names.image.now; schedule = names.schedule.now }
 
 -- neither of two files has a fault
 pub record AreSound (program plan : List ℕ) : Type 0 where
@@ -23,10 +28,9 @@ pub record AreMeant (program plan : List ℕ) (image : ImageValue) (events : Lis
   pub ordered : are_in_order 0 events ≡ true
 
 -- two files are a system, or the first that has a fault is refused, whatever else is due
-abbrev pub AreSystemFiles : (image_name schedule_name image schedule : List ℕ) → SystemFiles → Type 0
-AreSystemFiles image_name schedule_name image schedule (files.Refused answer) =
+abbrev pub AreSystemFiles : FileNames → (image schedule : List ℕ) → SystemFiles → Type 0
+AreSystemFiles names image schedule (files.Refused answer) =
     (others : List (Option Due)) (due : Due)
-    → Settles (unless_refused (image_refused image_name (image_fault image) ∷ schedule_refused schedule_name
-    (schedule_fault schedule) ∷ others) due) answer
-AreSystemFiles image_name schedule_name image schedule (files.Sound meant events) =
+    → Settles (unless_refused (system_refusals names image schedule others) due) answer
+AreSystemFiles names image schedule (files.Sound meant events) =
     AreSound image schedule × AreMeant image schedule meant events.items

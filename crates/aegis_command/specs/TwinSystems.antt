@@ -1,43 +1,22 @@
 -- `twin IMAGE SCHEDULE IMAGE SCHEDULE ENV N`: two runs compared by what one environment is given in them.
-use Rattle.std.specs.Prelude.{ℕ, List, [], ◌∷◌, Option, Some, None, option_map, ◌&&◌, nat_le, if◌then◌else◌}
+use Rattle.std.specs.Prelude.{ℕ, List, [], ◌∷◌, Option, Some, None, option_map, if◌then◌else◌}
 use Rattle.std.specs.Option.{option_and_then}
-use Rattle.aegis_limits.specs.Limits.{most_ticks}
-use Rattle.line_text.specs.Number.{digits_number}
-use Rattle.boot_image.specs.ImageFaults.{image_fault}
-use Rattle.boot_image.specs.ImageValue.{ImageValue, image_of}
-use Rattle.boot_schedule.specs.Schedule.{events_of, schedule_fault}
-use Rattle.external_event.specs.EventValue.{EventValue}
-use Rattle.world_model.specs.Event.{schedule_of}
+use Rattle.aegis_limits.specs.Limits.{most_run_ticks}
+use Rattle.boot_image.specs.ImageValue.{image_of}
+use Rattle.boot_schedule.specs.Schedule.{events_of}
 use Rattle.run_model.specs.Run.{System}
 use Rattle.twin_run.specs.declared.answer.TwinAnswer.{TwinAnswer}
 use Rattle.twin_run.specs.Answer.{twin_answer}
 use Rattle.twin_run.specs.Law.{is_same}
-use Rattle.twin_run.specs.Limit.{most_compared_slices}
 use Rattle.twin_run.specs.Text.{twin_text}
 use Rattle.commands.specs.Command.{CommandValue, content, no_further}
 use Rattle.commands.specs.Due.{Due, Found, Whole, unless_refused}
-use Rattle.aegis_command.specs.declared.twin_systems.SystemNames.{SystemNames}
 use Rattle.aegis_command.specs.declared.twin_systems.TwinSystems.{TwinSystems}
-use Rattle.aegis_command.specs.RunImage.{image_refused, schedule_refused}
-use Rattle.aegis_command.specs.TraceEnv.{env_of}
+use Rattle.aegis_command.specs.Ranges.{env_of, slice_of}
+use Rattle.aegis_command.specs.SystemDue.{FileNames, meant, system_refusals}
+use Rattle.aegis_command.specs.SystemFiles.{names_seen}
 
--- N: one to ten decimal digits, from 1 to the limit of a comparison
-abbrev pub as_slice : Option ℕ → Option ℕ
-as_slice None = None
-as_slice (Some n) = if nat_le 1 n && nat_le n most_compared_slices then Some n else None
-
-abbrev pub slice_of : List ℕ → Option ℕ
-slice_of word = as_slice (digits_number 10 10 word)
-
--- the names of a system's files
-pub record FileNames : Type 0 where
-  pub image : List ℕ
-  pub schedule : List ℕ
-
--- the system of an image and events, and the one that two files are
-abbrev pub meant : ImageValue → List EventValue → System
-meant image events = record { image = image; schedule = schedule_of events }
-
+-- the system that two files are
 abbrev pub meant_by : (image schedule : List ℕ) → System
 meant_by image schedule = meant (image_of image) (events_of schedule)
 
@@ -47,15 +26,13 @@ answer_due e answer = if is_same answer then Whole (twin_text e answer) else Fou
 
 -- the answer on two systems, each of at most so many ticks as a run may have
 abbrev pub answer_on : (left right : System) → ℕ → ℕ → Due
-answer_on left right e n = answer_due e (twin_answer left right e n most_ticks)
+answer_on left right e n = answer_due e (twin_answer left right e n most_run_ticks)
 
 -- the first file with a fault is refused, and if none has one, the answer is due
 abbrev pub twin_due : (left right : FileNames) → ℕ → ℕ → (image schedule other other_schedule : List ℕ) → Due
 twin_due left right e n image schedule other other_schedule =
-    unless_refused (image_refused left.image (image_fault image)
-    ∷ schedule_refused left.schedule (schedule_fault schedule)
-    ∷ image_refused right.image (image_fault other)
-    ∷ schedule_refused right.schedule (schedule_fault other_schedule) ∷ [])
+    unless_refused
+    (system_refusals left image schedule (system_refusals right other other_schedule []))
     (answer_on (meant_by image schedule) (meant_by other other_schedule) e n)
 
 abbrev pub twin_systems : (left right : FileNames) → ℕ → ℕ → CommandValue
@@ -67,11 +44,11 @@ twin_systems left right e n = record {
 }
 
 -- a comparison that was read from words, and what is due for it
-abbrev pub names_seen : SystemNames → FileNames
-names_seen names = record { image = names.image.now; schedule = names.schedule.now }
-
 abbrev pub twin_seen : TwinSystems → CommandValue
 twin_seen c = twin_systems (names_seen c.left) (names_seen c.right) c.env c.slice.number
+
+abbrev pub answer_seen : TwinSystems → (left right : System) → Due
+answer_seen c left right = answer_on left right c.env c.slice.number
 
 abbrev pub due_seen : TwinSystems → (image schedule other other_schedule : List ℕ) → Due
 due_seen c = twin_due (names_seen c.left) (names_seen c.right) c.env c.slice.number

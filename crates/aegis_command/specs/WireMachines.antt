@@ -1,34 +1,21 @@
 -- `wire DELAY TICKS (IMAGE SCHEDULE)..`: the reports of machines on a wire.
 use Rattle.std.specs.Prelude.{ℕ, ◌+◌, ◌*◌, ◌/◌, ◌%◌, List, [], ◌∷◌, ◌++◌, Option, Some, None, option_map, Bool, ◌==◌, ◌&&◌, nat_le, if◌then◌else◌, codes, length}
 use Rattle.std.specs.Option.{option_and_then}
-use Rattle.line_text.specs.Number.{digits_number}
 use Rattle.line_text.specs.Text.{dec_text}
 use Rattle.line_text.specs.WrittenLine.{line}
-use Rattle.boot_image.specs.ImageFaults.{image_fault}
 use Rattle.boot_image.specs.ImageValue.{image_of}
-use Rattle.boot_schedule.specs.Schedule.{events_of, schedule_fault}
+use Rattle.boot_schedule.specs.Schedule.{events_of}
 use Rattle.world_model.specs.Event.{schedule_of}
 use Rattle.world_model.specs.World.{World}
 use Rattle.run_model.specs.Boot.{boot_world}
 use Rattle.run_model.specs.Run.{end_of_run}
 use Rattle.run_report.specs.Report.{report_text}
-use Rattle.wire_model.specs.Limits.{most_delay, most_machines, most_wire_ticks}
+use Rattle.wire_model.specs.Limits.{most_machines}
 use Rattle.wire_model.specs.Wire.{Machine, Wire, joined, world_on_wire}
 use Rattle.commands.specs.Command.{CommandValue, content, no_further}
 use Rattle.commands.specs.Due.{Due, Whole, unless_refused}
-use Rattle.aegis_command.specs.RunImage.{image_refused, schedule_refused, within}
-
--- DELAY: one to ten decimal digits, from 1 to the longest delay
-abbrev pub as_delay : Option ℕ → Option ℕ
-as_delay None = None
-as_delay (Some n) = if nat_le 1 n && nat_le n most_delay then Some n else None
-
-abbrev pub delay_of : List ℕ → Option ℕ
-delay_of word = as_delay (digits_number 10 10 word)
-
--- TICKS: one to ten decimal digits, and at most the limit
-abbrev pub wire_ticks_of : List ℕ → Option ℕ
-wire_ticks_of word = within most_wire_ticks (digits_number 10 10 word)
+use Rattle.aegis_command.specs.Ranges.{delay_of, wire_ticks_of}
+use Rattle.aegis_command.specs.SystemDue.{system_refusals}
 
 -- whether names are pairs, from one to as many as there may be machines
 abbrev pub are_pairs : List (List ℕ) → Bool
@@ -60,8 +47,7 @@ wire_text net ticks = reports_text (λ i. world_on_wire net i ticks) net.count t
 -- the files that are refused, in their order
 abbrev pub refusals : List (List ℕ) → List (List ℕ) → List (Option Due)
 refusals (image ∷ schedule ∷ names) (program ∷ events ∷ contents) =
-    image_refused image (image_fault program) ∷ schedule_refused schedule (schedule_fault events)
-    ∷ refusals names contents
+    system_refusals (record { image = image; schedule = schedule }) program events (refusals names contents)
 refusals names contents = []
 
 -- the first file with a fault is refused, and if none has one, the reports are due

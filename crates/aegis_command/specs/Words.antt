@@ -1,7 +1,6 @@
 -- The words of the command line.
 use Rattle.std.specs.Prelude.{ℕ, List, [], ◌∷◌, Option, None, String, if◌then◌else◌, codes, map, string_bytes}
 use Rattle.std.specs.Global.{Global}
-use Rattle.std.specs.Option.{option_copied}
 use Rattle.std.specs.Str.{bytes_eq}
 use Rattle.commands.specs.Asm.{asm}
 use Rattle.commands.specs.Command.{CommandValue, of_one_name}
@@ -9,14 +8,16 @@ use Rattle.commands.specs.ListElf.{list_elf}
 use Rattle.commands.specs.MakeImage.{make_image}
 use Rattle.aegis_command.specs.declared.words.Words.{Words}
 use Rattle.aegis_command.specs.declared.words.Words.TheVariants.{RunImage, Asm, ListElf, MakeImage, LoadSeed, AuditLedger, TraceEnv, RunBare, WireMachines, TlbImage, TwinSystems}
-use Rattle.aegis_command.specs.AuditLedger.{audit_ledger, audit_words}
+use Rattle.aegis_command.specs.AuditLedger.{audit_seen, audit_words}
 use Rattle.aegis_command.specs.LoadSeed.{load_seed, load_words}
-use Rattle.aegis_command.specs.RunBare.{bare_words, run_bare}
-use Rattle.aegis_command.specs.RunImage.{run_image, run_words}
-use Rattle.aegis_command.specs.TlbImage.{tlb_image, tlb_words}
-use Rattle.aegis_command.specs.TraceEnv.{trace_env, trace_words}
+use Rattle.aegis_command.specs.RunBare.{bare_seen, bare_words}
+use Rattle.aegis_command.specs.RunImage.{report_writing, run_words}
+use Rattle.aegis_command.specs.SystemCommand.{system_seen}
+use Rattle.aegis_command.specs.TlbImage.{report_and_tlb_writing, tlb_words}
+use Rattle.aegis_command.specs.TraceEnv.{trace_words, trace_writing}
 use Rattle.aegis_command.specs.TwinSystems.{twin_seen, twin_words}
-use Rattle.aegis_command.specs.WireMachines.{wire_machines, wire_words}
+use Rattle.aegis_command.specs.WireCommand.{wire_seen}
+use Rattle.aegis_command.specs.WireMachines.{wire_words}
 
 -- the command of these words, if they are one's: its own word first, and then those that it asks for
 abbrev pub command_of : List (List ℕ) → Option CommandValue
@@ -34,20 +35,24 @@ command_of (word ∷ words) =
     if bytes_eq word (codes "tlb") then tlb_words words else
     if bytes_eq word (codes "twin") then twin_words words else None
 
+-- the words as texts
+abbrev pub texts_of : List (String Global) → List (List ℕ)
+texts_of words = map string_bytes words
+
 -- the command of the words after the program's name, if they are one's
 abbrev pub asked_by : List (String Global) → Option CommandValue
-asked_by words = command_of (map string_bytes words)
+asked_by words = command_of (texts_of words)
 
 -- the command of the words that were taken apart
 abbrev pub command_seen : Words → CommandValue
-command_seen (RunImage c) = run_image c.image.now c.schedule.now c.ticks.number
+command_seen (RunImage c) = system_seen report_writing c
 command_seen (Asm c) = asm c.source.now
 command_seen (ListElf c) = list_elf c.elf.now
 command_seen (MakeImage c) = make_image c.manifest.now
 command_seen (LoadSeed c) = load_seed c.seed
-command_seen (AuditLedger c) = audit_ledger c.report.now c.quantum.ticks (option_copied c.plan)
-command_seen (TraceEnv c) = trace_env c.image.now c.schedule.now c.ticks.number c.env
-command_seen (RunBare c) = run_bare c.file.now c.ticks.number c.period.number
-command_seen (WireMachines c) = wire_machines (map string_bytes c.files.now) c.delay.ticks c.ticks.number
-command_seen (TlbImage c) = tlb_image c.image.now c.schedule.now c.ticks.number
+command_seen (AuditLedger c) = audit_seen c
+command_seen (TraceEnv c) = system_seen trace_writing c
+command_seen (RunBare c) = bare_seen c
+command_seen (WireMachines c) = wire_seen c
+command_seen (TlbImage c) = system_seen report_and_tlb_writing c
 command_seen (TwinSystems c) = twin_seen c

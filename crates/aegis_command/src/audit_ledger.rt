@@ -5,9 +5,9 @@ ghost use Rattle.commands.specs.Work.{Settles};
 ghost use Rattle.ledger_text.specs.LedgerText.{ledger_seen};
 ghost use Rattle.ledger_text.specs.PlanText.{plan_read, plan_seen};
 ghost use Rattle.ledger_text.specs.Within.{IsLedgerWithin, IsPlanWithin};
-ghost use Rattle.aegis_command.specs.AuditLedger.{audit_ledger, audit_words, audit_due, broken_text, file_refused, ok_text, plan_due};
+ghost use Rattle.aegis_command.specs.AuditLedger.{audit_due, audit_seen, audit_words, broken_text, file_refused, ok_text, plan_due};
 
-use crate::quantum::Quantum;
+use crate::ranged::Quantum;
 use aegis_limits::OutOfMemory;
 use commands::{Answer, Command, Status, content};
 use ledger_audit::{AuditAnswer, audit};
@@ -32,7 +32,7 @@ pub struct AuditLedger<'a> {
 impl<'a> AuditLedger<'a> {
     /// The audit that the words behind `audit` ask for, if they are one's.
     pub fn parse(words: &'a [String]) -> Option<AuditLedger<'a>>
-        ensures { option_map (λ c. audit_ledger c.report.now c.quantum.ticks (option_copied c.plan)) result ≡ audit_words (map string_bytes words.now) }
+        ensures { option_map audit_seen result ≡ audit_words (map string_bytes words.now) }
     {
         match words {
             [report, quantum] => Some(AuditLedger {
@@ -87,9 +87,9 @@ fn audit_due(
 ) -> Result<Answer, OutOfMemory>
     requires ledger { IsLedgerWithin (ledger_seen ledger.now) }
     requires plan { IfSome plan (λ p. IsPlanWithin (plan_seen p.now)) }
-    ensures { IfOk result (Settles (audit_due quantum.ticks (option_map plan_seen (option_copied plan.entry)) (ledger_seen ledger.now))) }
+    ensures { IfOk result (Settles (audit_due quantum.number (option_map plan_seen (option_copied plan.entry)) (ledger_seen ledger.now))) }
 {
-    match audit(ledger, quantum.ticks, plan) {
+    match audit(ledger, quantum.number, plan) {
         AuditAnswer::Clean => Ok(Answer {
             text: ok_text(alloc, ledger.rows.len())?,
             status: Status::Done,
@@ -118,7 +118,7 @@ fn plan_due(
 ) -> Result<Answer, OutOfMemory>
     requires ledger { IsLedgerWithin (ledger_seen ledger.now) }
     requires short { length text.now < 2 ^ 27 }
-    ensures { IfOk result (Settles (plan_due name.now quantum.ticks (ledger_seen ledger.now) (plan_read text.now))) }
+    ensures { IfOk result (Settles (plan_due name.now quantum.number (ledger_seen ledger.now) (plan_read text.now))) }
 {
     law_within();
     match read_plan(alloc, text) {
@@ -129,7 +129,7 @@ fn plan_due(
 }
 
 impl Command for AuditLedger<'_> {
-    ghost value = { λ command. audit_ledger command.report.now command.quantum.ticks (option_copied command.plan) };
+    ghost value = { audit_seen };
 
     fn names(&self, alloc: Global) -> Result<Vec<String>, OutOfMemory> {
         let report = String::from_str(alloc, self.report)?;

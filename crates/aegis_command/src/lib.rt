@@ -6,17 +6,16 @@
 #![tactic(auto)]
 
 mod audit_ledger;
-mod last_slice;
+mod ended_run;
 mod load_seed;
-mod quantum;
+mod ranged;
 mod run_bare;
 mod run_image;
+mod system_command;
 mod system_files;
-mod ticks;
 mod tlb_image;
 mod top;
 mod trace_env;
-mod traced_ticks;
 mod twin_systems;
 mod wire_machines;
 mod words;

@@ -7,9 +7,9 @@ ghost use Rattle.line_text.specs.Text.{dec_text};
 ghost use Rattle.line_text.specs.WrittenLine.{line};
 ghost use Rattle.aegis_command.specs.LoadSeed.{load_seed, load_summary, load_ticks, load_words, summary_after};
 
-use crate::ticks::Ticks;
+use crate::ended_run::ended_run;
+use crate::ranged::Ticks;
 use aegis_limits::OutOfMemory;
-use aegis_tick::Course;
 use boot_image::{Image, read_image};
 use commands::{Answer, Command, Status};
 use exos_text::{load_image, load_schedule};
@@ -74,9 +74,8 @@ fn push_run(
     requires { are_in_order 0 events.now ≡ true }
     ensures { OnOk result (out.new.items ≡ out.old.items ++ summary_after image.now events.now ticks.number) }
 {
-    let mut course = Course::boot(alloc, image, events)?;
-    let end = course.run(ticks.number)?;
-    push_summary(alloc, out, &course.board, end)
+    let run = ended_run(alloc, image, events, ticks)?;
+    push_summary(alloc, out, &run.course.board, run.end)
 }
 
 /// The line that names the seed.

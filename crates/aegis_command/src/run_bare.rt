@@ -1,9 +1,9 @@
 //! The command `bare FILE TICKS PERIOD`.
 ghost use Rattle.std.specs.Prelude.{◌≡◌, IfOk, map, option_map, string_bytes};
 ghost use Rattle.commands.specs.Work.{Settles};
-ghost use Rattle.aegis_command.specs.RunBare.{bare_due, bare_words, run_bare};
+ghost use Rattle.aegis_command.specs.RunBare.{bare_due, bare_seen, bare_words};
 
-use crate::ticks::Ticks;
+use crate::ranged::Ticks;
 use aegis_limits::OutOfMemory;
 use bare_board::bare_text;
 use commands::{Answer, Command, Status, content};
@@ -24,7 +24,7 @@ pub struct RunBare<'a> {
 impl<'a> RunBare<'a> {
     /// The run that the words behind `bare` ask for, if they are one's.
     pub fn parse(words: &'a [String]) -> Option<RunBare<'a>>
-        ensures { option_map (λ c. run_bare c.file.now c.ticks.number c.period.number) result ≡ bare_words (map string_bytes words.now) }
+        ensures { option_map bare_seen result ≡ bare_words (map string_bytes words.now) }
     {
         let [file, ticks, period] = words else {
             return None;
@@ -59,7 +59,7 @@ fn due(alloc: Global, call: RunBare<'_>, file: &[u8]) -> Result<Answer, OutOfMem
 }
 
 impl Command for RunBare<'_> {
-    ghost value = { λ command. run_bare command.file.now command.ticks.number command.period.number };
+    ghost value = { bare_seen };
 
     fn names(&self, alloc: Global) -> Result<Vec<String>, OutOfMemory> {
         Ok(vec![in alloc; String::from_str(alloc, self.file)?]?)

@@ -1,98 +1,42 @@
-//! The command `run IMAGE SCHEDULE TICKS`.
-ghost use Rattle.std.specs.Prelude.{◌≡◌, ◌<◌, ◌^◌, IfOk, length, map, option_map, string_bytes, true};
-ghost use Rattle.external_event.specs.Order.{are_in_order};
-ghost use Rattle.commands.specs.Work.{Settles};
-ghost use Rattle.aegis_command.specs.RunImage.{report_after as report_text_after, run_due, run_image, run_words};
+//! What `run IMAGE SCHEDULE TICKS` writes.
+ghost use Rattle.aegis_command.specs.RunImage.{report_asked, report_writing};
 
-use crate::system_files::{SystemFiles, read_system};
-use crate::ticks::Ticks;
+use crate::ended_run::ended_run;
+use crate::ranged::Ticks;
+use crate::system_command::SystemText;
 use aegis_limits::OutOfMemory;
-use aegis_tick::Course;
 use boot_image::Image;
-use commands::{Answer, Command, Status, content};
 use external_event::Event;
 use run_report::report;
 use std::alloc::Global;
 
-/// `run IMAGE SCHEDULE TICKS`: the report of an image's world after so many ticks, in which the schedule's events
-/// happen.
+/// `TICKS`: the report of an image's world after so many ticks, in which the schedule's events happen.
 #[derive(Clone, Copy)]
-pub struct RunImage<'a> {
-    /// The name of the image.
-    pub image: &'a str,
-    /// The name of the schedule.
-    pub schedule: &'a str,
+pub struct Report {
     /// How many ticks to run.
     pub ticks: Ticks,
 }
 
-impl<'a> RunImage<'a> {
-    /// The run that the words behind `run` ask for, if they are one's.
-    pub fn parse(words: &'a [String]) -> Option<RunImage<'a>>
-        ensures { option_map (λ c. run_image c.image.now c.schedule.now c.ticks.number) result ≡ run_words (map string_bytes words.now) }
-    {
-        let [image, schedule, ticks] = words else {
+impl SystemText for Report {
+    ghost writing = { report_writing };
+
+    ghost asked = { report_asked };
+
+    fn parse(words: &[String]) -> Option<Report> {
+        let [ticks] = words else {
             return None;
         };
         let ticks = Ticks::parse(ticks.as_str())?;
-        Some(RunImage {
-            image: image.as_str(),
-            schedule: schedule.as_str(),
-            ticks,
-        })
-    }
-}
-
-/// The report of a run of so many ticks, in which these events happen.
-#[tactic(auto, unfolding(crate::specs::RunImage::report_after))]
-fn report_after(
-    alloc: Global,
-    image: &Image<'_>,
-    events: &[Event],
-    ticks: Ticks,
-) -> Result<Vec<u8>, OutOfMemory>
-    requires { are_in_order 0 events.now ≡ true }
-    ensures { IfOk result (λ text. text.items ≡ report_text_after image.now events.now ticks.number) }
-{
-    let mut course = Course::boot(alloc, image, events)?;
-    let end = course.run(ticks.number)?;
-    report(alloc, &course.board, end)
-}
-
-/// What is due for a run of these files: the first fault, or the report.
-fn due(
-    alloc: Global,
-    call: RunImage<'_>,
-    image: &[u8],
-    schedule: &[u8],
-) -> Result<Answer, OutOfMemory>
-    requires image { length image.now < 2 ^ 27 }
-    requires schedule { length schedule.now < 2 ^ 27 }
-    ensures { IfOk result (Settles (run_due call.entry.image.now call.entry.schedule.now call.entry.ticks.number image.now schedule.now)) }
-{
-    match read_system(alloc, call.image, call.schedule, image, schedule)? {
-        SystemFiles::Refused(answer) => Ok(answer),
-        SystemFiles::Sound(image, events) => Ok(Answer {
-            text: report_after(alloc, &image, &events, call.ticks)?,
-            status: Status::Done,
-        }),
-    }
-}
-
-impl Command for RunImage<'_> {
-    ghost value = { λ command. run_image command.image.now command.schedule.now command.ticks.number };
-
-    fn names(&self, alloc: Global) -> Result<Vec<String>, OutOfMemory> {
-        let image = String::from_str(alloc, self.image)?;
-        let schedule = String::from_str(alloc, self.schedule)?;
-        Ok(vec![in alloc; image, schedule]?)
+        Some(Report { ticks })
     }
 
-    fn further(&self, alloc: Global, _contents: &[Vec<u8>]) -> Result<Vec<String>, OutOfMemory> {
-        Ok(Vec::new(alloc))
-    }
-
-    fn answer(&self, alloc: Global, contents: &[Vec<u8>]) -> Result<Answer, OutOfMemory> {
-        due(alloc, *self, content(contents, 0), content(contents, 1))
+    fn write(
+        &self,
+        alloc: Global,
+        image: &Image<'_>,
+        events: &[Event],
+    ) -> Result<Vec<u8>, OutOfMemory> {
+        let run = ended_run(alloc, image, events, self.ticks)?;
+        report(alloc, &run.course.board, run.end)
     }
 }

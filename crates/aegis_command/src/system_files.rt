@@ -1,6 +1,6 @@
 //! The two files of a system.
-ghost use Rattle.std.specs.Prelude.{◌≡◌, ◌<◌, ◌^◌, IfOk, length};
-ghost use Rattle.aegis_command.specs.SystemFiles.{AreSystemFiles};
+ghost use Rattle.std.specs.Prelude.{◌≡◌, ◌<◌, ◌^◌, [], ◌∷◌, IfOk, length, map, string_bytes};
+ghost use Rattle.aegis_command.specs.SystemFiles.{AreSystemFiles, names_seen};
 
 use aegis_limits::OutOfMemory;
 use boot_image::{Image, read_image};
@@ -9,6 +9,15 @@ use commands::Answer;
 use external_event::Event;
 use line_text::Failure;
 use std::alloc::Global;
+
+/// The names of a system's files.
+#[derive(Clone, Copy)]
+pub struct SystemNames<'a> {
+    /// The name of the image.
+    pub image: &'a str,
+    /// The name of the schedule.
+    pub schedule: &'a str,
+}
 
 /// What an image and a schedule are.
 #[derive(Drop)]
@@ -19,34 +28,44 @@ pub(crate) enum SystemFiles<'a> {
     Sound(Image<'a>, Vec<Event>),
 }
 
-/// Reads an image and a schedule of these names.
-pub(crate) fn read_system<'a>(
-    alloc: Global,
-    image_name: &str,
-    schedule_name: &str,
-    image: &'a [u8],
-    schedule: &[u8],
-) -> Result<SystemFiles<'a>, OutOfMemory>
-    requires image { length image.now < 2 ^ 27 }
-    requires schedule { length schedule.now < 2 ^ 27 }
-    ensures { IfOk result (AreSystemFiles image_name.now schedule_name.now image.now schedule.now) }
-{
-    law_in_order();
-    let image = match read_image(alloc, image) {
-        Ok(image) => image,
-        Err(Failure::Fault(fault)) => {
-            let answer = Answer::refusal(alloc, image_name, fault.why.name(), fault.place)?;
-            return Ok(SystemFiles::Refused(answer));
-        }
-        Err(Failure::OutOfMemory) => return Err(OutOfMemory),
-    };
-    let events = match read_schedule(alloc, schedule) {
-        Ok(events) => events,
-        Err(Failure::Fault(fault)) => {
-            let answer = Answer::refusal(alloc, schedule_name, fault.why.name(), fault.line)?;
-            return Ok(SystemFiles::Refused(answer));
-        }
-        Err(Failure::OutOfMemory) => return Err(OutOfMemory),
-    };
-    Ok(SystemFiles::Sound(image, events))
+impl SystemNames<'_> {
+    /// The names in the order in which the files are read.
+    pub(crate) fn names(&self, alloc: Global) -> Result<Vec<String>, OutOfMemory>
+        ensures { IfOk result (λ names. map string_bytes names.items ≡ self.now.image.now ∷ self.now.schedule.now ∷ []) }
+    {
+        let image = String::from_str(alloc, self.image)?;
+        let schedule = String::from_str(alloc, self.schedule)?;
+        Ok(vec![in alloc; image, schedule]?)
+    }
+
+    /// Reads an image and a schedule of these names.
+    pub(crate) fn read<'a>(
+        &self,
+        alloc: Global,
+        image: &'a [u8],
+        schedule: &[u8],
+    ) -> Result<SystemFiles<'a>, OutOfMemory>
+        requires image { length image.now < 2 ^ 27 }
+        requires schedule { length schedule.now < 2 ^ 27 }
+        ensures { IfOk result (AreSystemFiles (names_seen self.now) image.now schedule.now) }
+    {
+        law_in_order();
+        let image = match read_image(alloc, image) {
+            Ok(image) => image,
+            Err(Failure::Fault(fault)) => {
+                let answer = Answer::refusal(alloc, self.image, fault.why.name(), fault.place)?;
+                return Ok(SystemFiles::Refused(answer));
+            }
+            Err(Failure::OutOfMemory) => return Err(OutOfMemory),
+        };
+        let events = match read_schedule(alloc, schedule) {
+            Ok(events) => events,
+            Err(Failure::Fault(fault)) => {
+                let answer = Answer::refusal(alloc, self.schedule, fault.why.name(), fault.line)?;
+                return Ok(SystemFiles::Refused(answer));
+            }
+            Err(Failure::OutOfMemory) => return Err(OutOfMemory),
+        };
+        Ok(SystemFiles::Sound(image, events))
+    }
 }

@@ -1,9 +1,9 @@
 //! The top call.
-ghost use Rattle.std.specs.Prelude.{◌≡◌, IfNone, length, map, string_bytes};
+ghost use Rattle.std.specs.Prelude.{◌≡◌, IfNone, length};
 ghost use Rattle.commands.specs.Edges.{shelf_edge, sink_edge};
 ghost use Rattle.commands.specs.Outcome.{Finished, IsOutcome, IsUsage};
 ghost use Rattle.aegis_command.specs.Headline.{IsComplete, IsDenied, IsGiven, IsHeadline, IsLoad, IsReadHeadline, TakesAll};
-ghost use Rattle.aegis_command.specs.Words.{asked_by};
+ghost use Rattle.aegis_command.specs.Words.{asked_by, texts_of};
 
 use crate::words::{parse, perform_words};
 use commands::{Status, Stop};
@@ -53,13 +53,13 @@ pub fn aegis<S: Shelf, K: Sink>(
     out: &mut K,
 ) -> Status
     // The headline: what run writes is the report of the world.
-    ensures headline { IsHeadline (map string_bytes words.now) (shelf_edge S.Shelf shelf.old shelf.new) (sink_edge K.Sink out.old out.new) result }
+    ensures headline { IsHeadline (texts_of words.now) (shelf_edge S.Shelf shelf.old shelf.new) (sink_edge K.Sink out.old out.new) result }
 
     // The same by what was read, also where the shelf tells nothing of its files, as the host's.
-    ensures read { IsReadHeadline (map string_bytes words.now) (shelf_edge S.Shelf shelf.old shelf.new) (sink_edge K.Sink out.old out.new) result }
+    ensures read { IsReadHeadline (texts_of words.now) (shelf_edge S.Shelf shelf.old shelf.new) (sink_edge K.Sink out.old out.new) result }
 
     // What load writes is a run in short, of the image and the schedule that its number gives. It is never refused.
-    ensures load { IsLoad (map string_bytes words.now) (shelf_edge S.Shelf shelf.old shelf.new) (sink_edge K.Sink out.old out.new) result }
+    ensures load { IsLoad (texts_of words.now) (shelf_edge S.Shelf shelf.old shelf.new) (sink_edge K.Sink out.old out.new) result }
 
     // What any command writes is what is due for its files. The laws of `commands` say what is due.
     ensures complete { IsComplete (asked_by words.now) (shelf_edge S.Shelf shelf.old shelf.new) (sink_edge K.Sink out.old out.new) result }

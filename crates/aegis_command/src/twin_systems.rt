@@ -2,10 +2,11 @@
 ghost use Rattle.std.specs.Prelude.{◌≡◌, ◌<◌, ◌^◌, IfOk, length, map, option_map, string_bytes, true};
 ghost use Rattle.commands.specs.Work.{Settles};
 ghost use Rattle.external_event.specs.Order.{are_in_order};
-ghost use Rattle.aegis_command.specs.TwinSystems.{answer_due, answer_on, due_seen, meant, twin_seen, twin_words};
+ghost use Rattle.aegis_command.specs.SystemDue.{meant};
+ghost use Rattle.aegis_command.specs.TwinSystems.{answer_due, answer_seen, due_seen, twin_seen, twin_words};
 
-use crate::last_slice::LastSlice;
-use crate::system_files::{SystemFiles, read_system};
+use crate::ranged::LastSlice;
+use crate::system_files::{SystemFiles, SystemNames};
 use crate::trace_env::parse_env;
 use aegis_limits::OutOfMemory;
 use boot_image::Image;
@@ -14,15 +15,6 @@ use external_event::Event;
 use feed_run::BoardRun;
 use std::alloc::Global;
 use twin_run::{TwinAnswer, twin, twin_text};
-
-/// The names of a system's files.
-#[derive(Clone, Copy)]
-pub struct SystemNames<'a> {
-    /// The name of the image.
-    pub image: &'a str,
-    /// The name of the schedule.
-    pub schedule: &'a str,
-}
 
 /// `twin IMAGE SCHEDULE IMAGE SCHEDULE ENV N`: two runs compared by what an environment is given in them up to the end of
 /// its slice N.
@@ -88,7 +80,7 @@ fn answer<'i, 'b, 'e>(
 ) -> Result<Answer, OutOfMemory>
     requires left { are_in_order 0 left_events.now ≡ true }
     requires right { are_in_order 0 right_events.now ≡ true }
-    ensures { IfOk result (Settles (answer_on (meant left.now left_events.now) (meant right.now right_events.now) call.entry.env call.entry.slice.number)) }
+    ensures { IfOk result (Settles (answer_seen call.entry (meant left.now left_events.now) (meant right.now right_events.now))) }
 {
     let mut left_run = BoardRun::boot(alloc, left, left_events, call.env)?;
     let mut right_run = BoardRun::boot(alloc, right, right_events, call.env)?;
@@ -117,18 +109,11 @@ fn due<'b>(
     requires other_schedule { length other_schedule.now < 2 ^ 27 }
     ensures { IfOk result (Settles (due_seen call.entry image.now schedule.now other.now other_schedule.now)) }
 {
-    let TwinSystems { left, right, .. } = call;
-    let (left, left_events) = match read_system(
-        alloc,
-        left.image,
-        left.schedule,
-        image,
-        schedule,
-    )? {
+    let (left, left_events) = match call.left.read(alloc, image, schedule)? {
         SystemFiles::Refused(answer) => return Ok(answer),
         SystemFiles::Sound(image, events) => (image, events),
     };
-    match read_system(alloc, right.image, right.schedule, other, other_schedule)? {
+    match call.right.read(alloc, other, other_schedule)? {
         SystemFiles::Refused(answer) => Ok(answer),
         SystemFiles::Sound(right, right_events) => {
             answer(alloc, call, &left, &left_events, &right, &right_events)
@@ -140,11 +125,9 @@ impl Command for TwinSystems<'_> {
     ghost value = { twin_seen };
 
     fn names(&self, alloc: Global) -> Result<Vec<String>, OutOfMemory> {
-        let left_image = String::from_str(alloc, self.left.image)?;
-        let left_schedule = String::from_str(alloc, self.left.schedule)?;
-        let right_image = String::from_str(alloc, self.right.image)?;
-        let right_schedule = String::from_str(alloc, self.right.schedule)?;
-        Ok(vec![in alloc; left_image, left_schedule, right_image, right_schedule]?)
+        let mut names = self.left.names(alloc)?;
+        names.append(&mut self.right.names(alloc)?)?;
+        Ok(names)
     }
 
     fn further(&self, alloc: Global, _contents: &[Vec<u8>]) -> Result<Vec<String>, OutOfMemory> {

@@ -1,71 +1,26 @@
 //! The command `wire DELAY TICKS (IMAGE SCHEDULE)..`.
 ghost use Rattle.std.specs.Prelude.{◌≡◌, ◌≤◌, ◌<◌, ◌+◌, ◌*◌, ◌%◌, ◌^◌, ◌++◌, [], IfOk, OnOk, get_or, length, map, option_map, string_bytes, true};
 ghost use Rattle.std.specs.List.{AllByRecursion};
-ghost use Rattle.board_model.specs.Shown.{Shown};
 ghost use Rattle.board_model.specs.Showing.{world_of};
 ghost use Rattle.edge_io.specs.Reads.{held};
-ghost use Rattle.wire_model.specs.Limits.{most_delay, most_wire_ticks};
 ghost use Rattle.commands.specs.Command.{IsShort};
-ghost use Rattle.aegis_command.specs.Pairs.{ArePairs, IsPair, IsPairAt};
-ghost use Rattle.aegis_command.specs.WireMachines.{are_pairs, delay_of, machine_report, reports_text, wire_machines, wire_ticks_of, wire_words};
+ghost use Rattle.aegis_command.specs.SystemFiles.{names_seen};
+ghost use Rattle.aegis_command.specs.Pairs.{ArePairs, AreReports, IsPair, IsPairAt};
+ghost use Rattle.aegis_command.specs.WireMachines.{are_pairs, machine_report, wire_words};
 
-use crate::system_files::{SystemFiles, read_system};
+use crate::ranged::{Delay, WireTicks};
+use crate::system_files::{SystemFiles, SystemNames};
 use aegis_calls::Board;
 use aegis_limits::OutOfMemory;
 use aegis_tick::{boot, end_of_run};
 use commands::{Answer, Command, Status, content};
 use external_event::Event;
-use line_text::{Word, decimal, push_line};
+use line_text::{Word, push_line};
 use run_report::report;
 use std::alloc::Global;
-use wire_model::{MOST_DELAY, MOST_MACHINES, MOST_WIRE_TICKS};
+use wire_model::MOST_MACHINES;
 use wire_net::wire;
 use world_model::WorldView;
-
-/// The ticks that a wire takes to carry a packet.
-#[derive(Clone, Copy)]
-pub struct Delay {
-    /// From 1 to `MOST_DELAY`.
-    pub ticks: u32,
-    ghost least: { 1 ≤ ticks },
-    ghost most: { ticks ≤ most_delay },
-}
-
-impl Delay {
-    /// The delay that a word gives, if it is one.
-    pub fn parse(word: &str) -> Option<Delay>
-        ensures { option_map (λ delay. delay.ticks) result ≡ delay_of word.now }
-    {
-        let ticks = decimal(word.as_bytes())?;
-        if 1 <= ticks && ticks <= MOST_DELAY {
-            Some(Delay { ticks })
-        } else {
-            None
-        }
-    }
-}
-
-/// The ticks of a run on a wire.
-#[derive(Clone, Copy)]
-pub struct WireTicks {
-    /// At most `MOST_WIRE_TICKS`.
-    pub number: u32,
-    ghost within: { number ≤ most_wire_ticks },
-}
-
-impl WireTicks {
-    /// The ticks that a word gives, if it is a number of them.
-    pub fn parse(word: &str) -> Option<WireTicks>
-        ensures { option_map (λ ticks. ticks.number) result ≡ wire_ticks_of word.now }
-    {
-        let number = decimal(word.as_bytes())?;
-        if number <= MOST_WIRE_TICKS {
-            Some(WireTicks { number })
-        } else {
-            None
-        }
-    }
-}
 
 /// `wire DELAY TICKS (IMAGE SCHEDULE)..`: the reports of machines on a wire, each with its schedule.
 #[derive(Clone, Copy)]
@@ -80,9 +35,11 @@ pub struct WireMachines<'a> {
 }
 
 impl<'a> WireMachines<'a> {
+    ghost use Rattle.aegis_command.specs.WireCommand.{wire_seen};
+
     /// The run on a wire that the words behind `wire` ask for, if they are one's.
     pub fn parse(words: &'a [String]) -> Option<WireMachines<'a>>
-        ensures { option_map (λ c. wire_machines (map string_bytes c.files.now) c.delay.ticks c.ticks.number) result ≡ wire_words (map string_bytes words.now) }
+        ensures { option_map wire_seen result ≡ wire_words (map string_bytes words.now) }
     {
         let [delay, ticks, files @ ..] = words else {
             return None;
@@ -124,16 +81,15 @@ enum Pairs {
 /// The machine of an image and a schedule of these names, if neither has a fault.
 fn pair_of(
     alloc: Global,
-    image_name: &str,
-    schedule_name: &str,
+    names: SystemNames<'_>,
     image: &[u8],
     schedule: &[u8],
 ) -> Result<Pair, OutOfMemory>
     requires image { length image.now < 2 ^ 27 }
     requires schedule { length schedule.now < 2 ^ 27 }
-    ensures { IfOk result (IsPair image_name.now schedule_name.now image.now schedule.now) }
+    ensures { IfOk result (IsPair (names_seen names.entry) image.now schedule.now) }
 {
-    match read_system(alloc, image_name, schedule_name, image, schedule)? {
+    match names.read(alloc, image, schedule)? {
         SystemFiles::Refused(answer) => Ok(Pair::Refused(answer)),
         SystemFiles::Sound(image, events) => Ok(Pair::Sound(boot(alloc, &image)?, events)),
     }
@@ -160,10 +116,13 @@ fn pair_at(
     ensures { IfOk result (IsPairAt (map string_bytes names.now) (held contents.now) pair) }
 {
     let first = 2 * pair;
+    let names = SystemNames {
+        image: name_at(names, first),
+        schedule: name_at(names, first + 1),
+    };
     pair_of(
         alloc,
-        name_at(names, first),
-        name_at(names, first + 1),
+        names,
         content(contents, first),
         content(contents, first + 1),
     )
@@ -210,7 +169,7 @@ fn push_machine(
 /// The reports of machines after so many ticks on a wire.
 #[tactic(auto, unfolding(line_text::specs::WrittenLine::line_of))]
 fn reports(alloc: Global, boards: &[Board], ticks: u32) -> Result<Vec<u8>, OutOfMemory>
-    ensures { IfOk result (λ text. (b : Shown) → text.items ≡ reports_text (λ i. world_of (get_or boards.now i b)) (length boards.now) ticks) }
+    ensures { IfOk result (λ text. AreReports boards.now ticks text.items) }
 {
     let mut text = Vec::new(alloc);
     push_line(
@@ -226,7 +185,9 @@ fn reports(alloc: Global, boards: &[Board], ticks: u32) -> Result<Vec<u8>, OutOf
 }
 
 impl Command for WireMachines<'_> {
-    ghost value = { λ command. wire_machines (map string_bytes command.files.now) command.delay.ticks command.ticks.number };
+    ghost use Rattle.aegis_command.specs.WireCommand.{wire_seen};
+
+    ghost value = { wire_seen };
 
     fn names(&self, alloc: Global) -> Result<Vec<String>, OutOfMemory> {
         let mut names = Vec::new(alloc);
@@ -252,7 +213,7 @@ impl Command for WireMachines<'_> {
                     alloc,
                     &mut boards,
                     &schedules,
-                    self.delay.ticks,
+                    self.delay.number,
                     self.ticks.number,
                 )?;
                 Ok(Answer {

@@ -10,9 +10,10 @@ ghost use Rattle.aegis_command.specs.Words.{asked_by, command_seen};
 use crate::audit_ledger::AuditLedger;
 use crate::load_seed::LoadSeed;
 use crate::run_bare::RunBare;
-use crate::run_image::RunImage;
-use crate::tlb_image::TlbImage;
-use crate::trace_env::TraceEnv;
+use crate::run_image::Report;
+use crate::system_command::SystemCommand;
+use crate::tlb_image::ReportAndTlb;
+use crate::trace_env::Trace;
 use crate::twin_systems::TwinSystems;
 use crate::wire_machines::WireMachines;
 use commands::{Answer, Asm, ListElf, MakeImage, Stop, perform};
@@ -23,7 +24,7 @@ use std::alloc::Global;
 #[derive(Clone, Copy)]
 pub enum Words<'a> {
     /// `run IMAGE SCHEDULE TICKS`.
-    RunImage(RunImage<'a>),
+    RunImage(SystemCommand<'a, Report>),
     /// `asm SOURCE`.
     Asm(Asm<'a>),
     /// `list ELF`.
@@ -35,13 +36,13 @@ pub enum Words<'a> {
     /// `audit REPORT QUANTUM`, and a plan or none.
     AuditLedger(AuditLedger<'a>),
     /// `trace IMAGE SCHEDULE TICKS ENV`.
-    TraceEnv(TraceEnv<'a>),
+    TraceEnv(SystemCommand<'a, Trace>),
     /// `bare FILE TICKS PERIOD`.
     RunBare(RunBare<'a>),
     /// `wire DELAY TICKS (IMAGE SCHEDULE)..`.
     WireMachines(WireMachines<'a>),
     /// `tlb IMAGE SCHEDULE TICKS`.
-    TlbImage(TlbImage<'a>),
+    TlbImage(SystemCommand<'a, ReportAndTlb>),
     /// `twin IMAGE SCHEDULE IMAGE SCHEDULE ENV N`.
     TwinSystems(TwinSystems<'a>),
 }
@@ -65,7 +66,7 @@ pub fn parse(words: &[String]) -> Option<Words<'_>>
     };
     let word = word.as_str();
     if word == "run" {
-        return Some(Words::RunImage(RunImage::parse(rest)?));
+        return Some(Words::RunImage(SystemCommand::parse(rest)?));
     }
     if word == "asm" {
         let source = only_name(rest)?;
@@ -86,7 +87,7 @@ pub fn parse(words: &[String]) -> Option<Words<'_>>
         return Some(Words::AuditLedger(AuditLedger::parse(rest)?));
     }
     if word == "trace" {
-        return Some(Words::TraceEnv(TraceEnv::parse(rest)?));
+        return Some(Words::TraceEnv(SystemCommand::parse(rest)?));
     }
     if word == "bare" {
         return Some(Words::RunBare(RunBare::parse(rest)?));
@@ -95,7 +96,7 @@ pub fn parse(words: &[String]) -> Option<Words<'_>>
         return Some(Words::WireMachines(WireMachines::parse(rest)?));
     }
     if word == "tlb" {
-        return Some(Words::TlbImage(TlbImage::parse(rest)?));
+        return Some(Words::TlbImage(SystemCommand::parse(rest)?));
     }
     if word == "twin" {
         return Some(Words::TwinSystems(TwinSystems::parse(rest)?));

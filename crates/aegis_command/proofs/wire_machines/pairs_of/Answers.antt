@@ -24,7 +24,7 @@ returns-in-Refused c due =
     let files : length names ≡ length c.args.names.now = length-map c.args.names.now string_bytes in
     let count : length contents ≡ length names = length-map c.args.contents.now _ ∙ c.requires.count ∙ sym files in
     let within : 2 * pair + 1 < length names = omega (arith, c.loop-pair-test.true, files) in
-    let one = subst (λ (p : Pair). IsPair (get_or names (2 * pair) []) (get_or names (2 * pair + 1) []) (content contents (2 * pair)) (content contents (2 * pair + 1)) p) c.in-Refused.is c.in_ok-answer.ensures in
+    let one = subst (λ (p : Pair). IsPair (record { image = get_or names (2 * pair) []; schedule = get_or names (2 * pair + 1) [] }) (content contents (2 * pair)) (content contents (2 * pair + 1)) p) c.in-Refused.is c.in_ok-answer.ensures in
     subst (λ (d : Due). Settles d c.in-Refused.answer)
     (sym (c.loop-pair.invariant.sound due ∙ ap (λ (xs : List (Option Due)). unless_refused xs due) (refusals_more names contents pair within count)))
     (one (refusals (drop (2 * (pair + 1)) names) (drop (2 * (pair + 1)) contents)) due)
@@ -38,7 +38,7 @@ loop-pair-preserved c =
     let files : length names ≡ length c.args.names.now = length-map c.args.names.now string_bytes in
     let count : length contents ≡ length names = length-map c.args.contents.now _ ∙ c.requires.count ∙ sym files in
     let within : 2 * pair + 1 < length names = omega (arith, c.loop-pair-test.true, files) in
-    let one = subst (λ (p : Pair). IsPair (get_or names (2 * pair) []) (get_or names (2 * pair + 1) []) (content contents (2 * pair)) (content contents (2 * pair + 1)) p) c.in-Sound.is c.in_ok-answer.ensures in
+    let one = subst (λ (p : Pair). IsPair (record { image = get_or names (2 * pair) []; schedule = get_or names (2 * pair + 1) [] }) (content contents (2 * pair)) (content contents (2 * pair + 1)) p) c.in-Sound.is c.in_ok-answer.ensures in
     let boards : c.push.new.self.items ≡ c.loop-pair.boards.items ++ c.in-Sound.board ∷ [] = c.in_ok-push-in-Sound.ensures.items in
     let plans : c.push-in-Sound.new.self.items ≡ c.loop-pair.schedules.items ++ c.in-Sound.events ∷ [] = c.in_ok-push-in-Sound-2.ensures.items in
     record {

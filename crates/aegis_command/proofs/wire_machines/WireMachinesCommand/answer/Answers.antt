@@ -52,7 +52,7 @@ unfolding wire_text
 returns-in_ok-reports-in-Sound c =
     let names = map string_bytes c.args.self.now.files.now in
     let contents = held c.args.contents.now in
-    let delay = c.args.self.now.delay.ticks in
+    let delay = c.args.self.now.delay.number in
     let ticks = c.args.self.now.ticks.number in
     let net = wire_of contents delay in
     let got = subst (λ (p : Pairs). ArePairs names contents p) c.in-Sound.is c.in_ok-answer.ensures in
