@@ -1,6 +1,7 @@
 -- The step of a quiet environment that runs.
-use Rattle.std.proofs.Common.{◌≡◌, ◌<◌, ◌-◌, ℕ, suc, List, [], ◌∷◌, ◌++◌, Bool, true, false, Option, None, Some, inl, inr, refl, sym, ◌∙◌, ap, subst, arith}
+use Rattle.std.proofs.Common.{◌≡◌, ℕ, List, [], ◌∷◌, ◌++◌, Bool, true, false, Option, None, Some, inl, inr, refl, sym, ◌∙◌, ap, subst, append_assoc}
 use Rattle.std.specs.Prelude.{◌==◌, ◌⊎◌, if◌then◌else◌, is_some, length, unwrap_or}
+use Rattle.std.specs.Option.{option_map_or}
 use Rattle.std.proofs.lemmas.Bool.{eq-eqb}
 use Rattle.std.proofs.lemmas.List.{append-nil}
 use Rattle.bind_book.specs.declared.binding.Binding.{Binding}
@@ -31,11 +32,11 @@ use Rattle.world_model.specs.Verdict.{done, reply_by_verdict, reply_to, verdict,
 use Rattle.world_model.specs.World.{World, Reply, after, followed, in_turn, no_change, no_items, only, tells}
 use Rattle.world_model.specs.Death.{death, lost_with}
 use Rattle.run_model.proofs.Telling.{call_stands, told_named, told_own}
-use Rattle.quiet_law.specs.Alone.{Course, act_course, answer_course, call_course, answer_alone, is_quiet_call, is_yield, item_first, items_first, slice_over}
+use Rattle.quiet_law.specs.Alone.{Alone, after_act, is_quiet_call, stopped, with_item}
 use Rattle.quiet_law.proofs.Clear.{IsClear, left_none, unbind_bound}
 use Rattle.quiet_law.proofs.Nothing.{HasNothing, IsQuietDeed, answer_nothing, call_quiet, step_nothing}
 use Rattle.quiet_law.proofs.Others.{Waits, death_clear}
-use Rattle.quiet_law.proofs.Rest.{due_in, due_runs, rest_of}
+use Rattle.quiet_law.proofs.Rest.{alone_after, alone_in, left_of, phase_of, same_alone}
 
 -- who is given items alone is given these
 pub only_own : (e : ℕ) (items : List Item) → only e items e ≡ items
@@ -71,31 +72,20 @@ quiet_waits e w d clear quiet goes_on = absurd quiet
 
 -- What an act of the environment brings, in the world once it has made the step.
 pub record Brings (e : ℕ) (w : World) (r : Runner) (act : Act) (reply : Reply) : Type 0 where
-  pub course : (let x = w.book.excess e in let q = w.book.quantum in let s = w.solos e in act_course (rest_of q x (r.left - 1) r.phase) x s act)
-      ≡ items_first (reply.items e) (due_in e w.book.quantum (reply.book.excess e) reply.book.runner (absorb_all (w.solos e) (reply.items e)))
+  pub alone : (xs : List Item) → after_act act (alone_in e w xs) ≡ alone_in e (after w reply) (xs ++ reply.items e)
   pub clear : IsClear e reply.book
   pub quantum : reply.book.quantum ≡ w.book.quantum
   pub runner : ((reply.book.runner ≡ Some r) × (reply.book.excess e ≡ w.book.excess e)) ⊎ (reply.book.runner ≡ None)
   pub nothing : HasNothing (absorb_all (w.solos e) (reply.items e))
 
-module _ (e : ℕ) (w : World) (clear : IsClear e w.book) (has : HasNothing (w.solos e)) (r : Runner) (runs : w.book.runner ≡ Some r) (its : r.env ≡ e) where
+module _ (e : ℕ) (w : World) (clear : IsClear e w.book) (has : HasNothing (w.solos e)) (r : Runner) (runs : w.book.runner ≡ Some r) where
   abbrev s : Solo
   s = w.solos e
 
-  abbrev owes : ℕ
-  owes = w.book.excess e
-
-  abbrev going : Solo → Course
-  going = rest_of w.book.quantum owes (r.left - 1) r.phase
-
-  -- the slice goes on as it does
-  goes_on : (excess : ℕ) (runner : Option Runner) (t : Solo) → excess ≡ owes → runner ≡ w.book.runner → due_in e w.book.quantum excess runner t ≡ going t
-  goes_on excess runner t same stays = rw (same, stays, runs) (due_runs e w.book.quantum owes r t its)
-
-  nothing_brings : (act : Act) (reply : Reply) → act_course going owes s act ≡ going s → reply.items e ≡ [] → reply.book ≡ w.book → Brings e w r act reply
+  nothing_brings : (act : Act) (reply : Reply) → ((a : Alone) → after_act act a ≡ a) → reply.items e ≡ [] → reply.book ≡ w.book → Brings e w r act reply
   nothing_brings act reply acts nothing same = record {
-    course = acts ∙ sym (goes_on (reply.book.excess e) reply.book.runner s (ap (λ (b : Book). b.excess e) same) (ap (λ (b : Book). b.runner) same))
-        ∙ ap (λ items. items_first items (due_in e w.book.quantum (reply.book.excess e) reply.book.runner (absorb_all s items))) (sym nothing);
+    alone = λ xs. acts (alone_in e w xs) ∙ alone_after e w reply xs [] (alone_in e w xs) nothing (sym (append-nil xs)) refl
+        (ap (λ (b : Book). left_of e b.runner) (sym same)) (ap (λ (b : Book). phase_of e b.runner) (sym same)) (ap (λ (b : Book). b.excess e) (sym same));
     clear = subst (IsClear e) (sym same) clear;
     quantum = ap (λ (b : Book). b.quantum) same;
     runner = inl (ap (λ (b : Book). b.runner) same ∙ runs, ap (λ (b : Book). b.excess e) same);
@@ -108,7 +98,7 @@ module _ (e : ℕ) (w : World) (clear : IsClear e w.book) (has : HasNothing (w.s
       let nothing : (death w e).items e ≡ [] = ap (λ (t : Bool). if t then [] else lost_with w.book e e w.book.page_count) (eq-eqb e e refl) in
       let free : (death w e).book.excess e ≡ 0 = ap (λ (t : Bool). if t then 0 else w.book.excess e) (eq-eqb e e refl) in
       record {
-        course = ap slice_over (sym free) ∙ ap (λ items. items_first items (due_in e w.book.quantum ((death w e).book.excess e) None (absorb_all s items))) (sym nothing);
+        alone = λ xs. alone_after e w (death w e) xs [] (after_act (Dies cause) (alone_in e w xs)) nothing (sym (append-nil xs)) refl refl refl (sym free);
         clear = death_clear e w clear e;
         quantum = refl;
         runner = inr refl;
@@ -131,23 +121,18 @@ module _ (e : ℕ) (w : World) (clear : IsClear e w.book) (has : HasNothing (w.s
           ap (λ items. only e (Answer (Grant value) ∷ []) e ++ items) its.aside.nothing ∙ append-nil (only e (Answer (Grant value) ∷ []) e) ∙ only_own e (Answer (Grant value) ∷ []),
         )
 
-    answer_brings : (v : Verdict) → verdict_alone s c ≡ Some v → is_quiet_call s.cpu c ≡ true → is_yield c ≡ false → ((who : ℕ) → v ≡ Again who → ⊥)
-        → ((value : ℕ) → deed_of c value s.cpu ≡ Stops → ⊥) → Brings e w r (Calls c) (reply_to w e c)
-    answer_brings v alone quiet on decided moves =
+    answer_brings : (v : Verdict) → verdict_alone s c ≡ Some v → ((a : Alone) → after_act (Calls c) a ≡ option_map_or (λ answer. with_item (Answer answer) a) (verdict_alone a.solo c) (stopped a))
+        → is_quiet_call s.cpu c ≡ true → ((who : ℕ) → v ≡ Again who → ⊥) → ((value : ℕ) → deed_of c value s.cpu ≡ Stops → ⊥) → Brings e w r (Calls c) (reply_to w e c)
+    answer_brings v alone answers quiet decided moves =
         let is : verdict w e c ≡ v = ap (λ (o : Option Verdict). unwrap_or o (verdict_shared w e c)) alone in
-        let given : answer_alone s c ≡ v = ap (λ (o : Option Verdict). unwrap_or o (Grant 0)) alone in
         let its_deed : (value : ℕ) → IsQuietDeed (deed_at s value) = λ value. subst IsQuietDeed (sym (deed_is value)) (call_quiet s.cpu c value quiet) in
         let both = reply_waits v decided (λ value granted. quiet_waits e w (deed_at s value) clear (its_deed value) (λ stops. moves value (sym (deed_is value) ∙ stops))) in
         let waits = both.0 in
         let items = both.1 in
-        let t = absorb s (Answer v) in
         subst (λ (o : Verdict). Brings e w r (Calls c) (reply_by_verdict w e o)) (sym is) (record {
-          course =
-              ap (call_course going owes s c) quiet
-              ∙ ap (λ (a : Verdict). item_first (Answer a) (answer_course going owes (absorb s (Answer a)) (is_yield c))) given
-              ∙ ap (λ (ends : Bool). item_first (Answer v) (answer_course going owes t ends)) on
-              ∙ ap (item_first (Answer v)) (sym (goes_on ((reply_by_verdict w e v).book.excess e) (reply_by_verdict w e v).book.runner t waits.aside.excess waits.runner))
-              ∙ ap (λ xs. items_first xs (due_in e w.book.quantum ((reply_by_verdict w e v).book.excess e) (reply_by_verdict w e v).book.runner (absorb_all s xs))) (sym items);
+          alone = λ xs. answers (alone_in e w xs) ∙ ap (λ (o : Option Verdict). option_map_or (λ answer. with_item (Answer answer) (alone_in e w xs)) o (stopped (alone_in e w xs))) alone
+              ∙ alone_after e w (reply_by_verdict w e v) xs (Answer v ∷ []) (with_item (Answer v) (alone_in e w xs)) items refl refl
+              (ap (left_of e) (sym waits.runner)) (ap (phase_of e) (sym waits.runner)) (sym waits.aside.excess);
           clear = waits.aside.clear;
           quantum = waits.aside.quantum;
           runner = inl (waits.runner ∙ runs, waits.aside.excess);
@@ -157,15 +142,11 @@ module _ (e : ℕ) (w : World) (clear : IsClear e w.book) (has : HasNothing (w.s
   yield_brings : called s.cpu ≡ Some call.Yield → (reg s.cpu 4 == any) ≡ true → Brings e w r (Calls (Some call.Yield)) (reply_to w e (Some call.Yield))
   yield_brings named quiet =
       let is : verdict w e (Some call.Yield) ≡ Grant 0 = ap (λ (t : Bool). unwrap_or (yield_alone t) (verdict_shared w e (Some call.Yield))) quiet in
-      let given : answer_alone s (Some call.Yield) ≡ Grant 0 = ap (λ (t : Bool). unwrap_or (yield_alone t) (Grant 0)) quiet in
       let stops : deed_at s 0 ≡ Stops = deed_is (Some call.Yield) named 0 ∙ rw quiet refl in
       let reply = followed (tells e (Answer (Grant 0)) w) (done w e Stops) in
       let items : reply.items e ≡ Answer (Grant 0) ∷ [] = append-nil (only e (Answer (Grant 0) ∷ []) e) ∙ only_own e (Answer (Grant 0) ∷ []) in
       let brings : Brings e w r (Calls (Some call.Yield)) reply = record {
-        course =
-            ap (call_course going owes s (Some call.Yield)) quiet
-            ∙ ap (λ (a : Verdict). item_first (Answer a) (slice_over owes)) given
-            ∙ ap (λ xs. items_first xs (due_in e w.book.quantum owes None (absorb_all s xs))) (sym items);
+        alone = λ xs. alone_after e w reply xs (Answer (Grant 0) ∷ []) (after_act (Calls (Some call.Yield)) (alone_in e w xs)) items refl refl refl refl refl;
         clear = record { owned = clear.owned; bound = clear.bound; claims = clear.claims; lines = clear.lines };
         quantum = refl;
         runner = inr refl;
@@ -179,69 +160,56 @@ module _ (e : ℕ) (w : World) (clear : IsClear e w.book) (has : HasNothing (w.s
   granted_decided None value who is = cc
   granted_decided (Some why) value who is = cc
 
-  unstopped : (c : Option Call) → is_quiet_call s.cpu c ≡ true → is_yield c ≡ false → (value : ℕ) → deed_of c value s.cpu ≡ Stops → ⊥
-  unstopped (Some call.Put) quiet on value is = cc
-  unstopped (Some call.Send) quiet on value is = cc
-  unstopped (Some call.Unbind) quiet on value is = cc
-  unstopped (Some call.Context) quiet on value is = context_unstopped (context_numbered (reg s.cpu 4)) (reg s.cpu 5) is
-  unstopped (Some call.OwnNumber) quiet on value is = cc
-  unstopped c quiet on value is = cc
-
   call_brings : (c : Option Call) → called s.cpu ≡ c → is_quiet_call s.cpu c ≡ true → Brings e w r (Calls c) (reply_to w e c)
   call_brings (Some call.Yield) named quiet = yield_brings named quiet
   call_brings (Some call.Put) named quiet =
-      answer_brings (Some call.Put) named (put s) refl quiet refl (granted_decided (put_refusal s.cpu (sight s) (length s.console)) (reg s.cpu 5)) (unstopped (Some call.Put) quiet refl)
+      answer_brings (Some call.Put) named (put s) refl (λ a. refl) quiet (granted_decided (put_refusal s.cpu (sight s) (length s.console)) (reg s.cpu 5)) (λ value is. cc)
   call_brings (Some call.Send) named quiet =
-      answer_brings (Some call.Send) named (send s) refl quiet refl (granted_decided (send_refusal s.cpu (sight s) (length s.sent)) 0) (unstopped (Some call.Send) quiet refl)
+      answer_brings (Some call.Send) named (send s) refl (λ a. refl) quiet (granted_decided (send_refusal s.cpu (sight s) (length s.sent)) 0) (λ value is. cc)
   call_brings (Some call.Unbind) named quiet =
-      answer_brings (Some call.Unbind) named (unbind s) refl quiet refl (granted_decided (vpn_refusal (is_guaranteed_vpn s (reg s.cpu 4)) (reg s.cpu 4)) (if is_some (binding_at s.version s.binds (reg s.cpu 4)) then 1 else 0)) (unstopped (Some call.Unbind) quiet refl)
+      answer_brings (Some call.Unbind) named (unbind s) refl (λ a. refl) quiet (granted_decided (vpn_refusal (is_guaranteed_vpn s (reg s.cpu 4)) (reg s.cpu 4)) (if is_some (binding_at s.version s.binds (reg s.cpu 4)) then 1 else 0)) (λ value is. cc)
   call_brings (Some call.Context) named quiet =
-      answer_brings (Some call.Context) named (context s) refl quiet refl (granted_decided (refusal_of_context s.cpu) 0) (unstopped (Some call.Context) quiet refl)
+      answer_brings (Some call.Context) named (context s) refl (λ a. refl) quiet (granted_decided (refusal_of_context s.cpu) 0) (λ value is. context_unstopped (context_numbered (reg s.cpu 4)) (reg s.cpu 5) is)
   call_brings (Some call.OwnNumber) named quiet =
-      answer_brings (Some call.OwnNumber) named (Grant s.number) refl quiet refl (λ who is. cc) (unstopped (Some call.OwnNumber) quiet refl)
+      answer_brings (Some call.OwnNumber) named (Grant s.number) refl (λ a. refl) quiet (λ who is. cc) (λ value is. cc)
   call_brings c named quiet = let never : false ≡ true = quiet in cc
 
   -- so whatever it does
   act_brings : (act : Act) → ((c : Option Call) → act ≡ Calls c → (called s.cpu ≡ c) × (is_quiet_call s.cpu c ≡ true)) → Brings e w r act (act_reply e act w)
-  act_brings Nothing calls = nothing_brings Nothing (no_change w) refl refl refl
-  act_brings (Stores x) calls = nothing_brings (Stores x) (act_reply e (Stores x) w) refl (left_none e w.book clear e x) refl
+  act_brings Nothing calls = nothing_brings Nothing (no_change w) (λ a. refl) refl refl
+  act_brings (Stores x) calls = nothing_brings (Stores x) (act_reply e (Stores x) w) (λ a. refl) (left_none e w.book clear e x) refl
   act_brings (Calls c) calls = let its = calls c refl in call_brings c its.0 its.1
-  act_brings (Raises exc) calls = nothing_brings (Raises exc) (no_change w) refl refl refl
+  act_brings (Raises exc) calls = nothing_brings (Raises exc) (no_change w) (λ a. refl) refl refl
   act_brings (Dies cause) calls = death_brings cause
 
--- Its step: the rest of its slice is what it is given, and what is due behind that.
+-- Its step, and what comes of it.
 pub record Steps (e : ℕ) (w : World) (r : Runner) (reply : Reply) : Type 0 where
-  pub course : rest_of w.book.quantum (w.book.excess e) r.left r.phase (w.solos e)
-      ≡ items_first (reply.items e) (due_in e w.book.quantum (reply.book.excess e) reply.book.runner (absorb_all (w.solos e) (reply.items e)))
+  pub alone : (xs : List Item) → after_act (act_now w e) (with_item Step (alone_in e w xs)) ≡ alone_in e (after w reply) (xs ++ reply.items e)
   pub clear : IsClear e reply.book
   pub quantum : reply.book.quantum ≡ w.book.quantum
   pub runner : ((reply.book.runner ≡ Some r) × (reply.book.excess e ≡ w.book.excess e)) ⊎ (reply.book.runner ≡ None)
   pub nothing : HasNothing (absorb_all (w.solos e) (reply.items e))
 
-pub own_steps : (e : ℕ) (w : World) → IsClear e w.book → HasNothing (w.solos e) → (r : Runner) → w.book.runner ≡ Some r → r.env ≡ e → 0 < r.left
+pub own_steps : (e : ℕ) (w : World) → IsClear e w.book → HasNothing (w.solos e) → (r : Runner) → w.book.runner ≡ Some r
     → ((c : Option Call) → act_now w e ≡ Calls c → is_quiet_call (w.solos e).cpu c ≡ true) → Steps e w r (in_turn (tells e Step ∷ act_reply e (act_now w e) ∷ []) w)
-own_steps e w clear has r runs its some quiet =
+own_steps e w clear has r runs quiet =
     let s = w.solos e in
     let act = act_now w e in
     let v = after w (tells e Step w) in
     let stepped : v.solos e ≡ absorb s Step = told_own w e Step in
     let calls : (c : Option Call) → act ≡ Calls c → (called (v.solos e).cpu ≡ c) × (is_quiet_call (v.solos e).cpu c ≡ true) =
     λ c is. (told_named w e c is, subst (λ (u : World). is_quiet_call (u.solos e).cpu c ≡ true) (sym (call_stands w e c is)) (quiet c is)) in
-    let brings : Brings e v r act (act_reply e act v) = act_brings e v clear (subst HasNothing (sym stepped) (step_nothing s has)) r runs its act calls in
+    let brings : Brings e v r act (act_reply e act v) = act_brings e v clear (subst HasNothing (sym stepped) (step_nothing s has)) r runs act calls in
     let more = (act_reply e act v).items e in
     let reply = in_turn (tells e Step ∷ act_reply e act ∷ []) w in
     let items : reply.items e ≡ Step ∷ more = ap (λ first. first ++ (more ++ [])) (only_own e (Step ∷ [])) ∙ ap (λ xs. Step ∷ xs) (append-nil more) in
     let absorbs : absorb_all (v.solos e) more ≡ absorb_all s (reply.items e) = ap (λ t. absorb_all t more) stepped ∙ ap (absorb_all s) (sym items) in
-    let x = w.book.excess e in
-    let q = w.book.quantum in
-    let left : r.left ≡ suc (r.left - 1) = omega (arith, some) in
     record {
-      course =
-          ap (λ n. rest_of q x n r.phase s) left
-          ∙ ap (λ t. item_first Step (act_course (rest_of q x (r.left - 1) r.phase) x t act)) (sym stepped)
-          ∙ ap (item_first Step) brings.course
-          ∙ ap (λ t. items_first (Step ∷ more) (due_in e q (reply.book.excess e) reply.book.runner t)) absorbs
-          ∙ ap (λ xs. items_first xs (due_in e q (reply.book.excess e) reply.book.runner (absorb_all s (reply.items e)))) (sym items);
+      alone = λ xs.
+          ap (after_act act) (same_alone (with_item Step (alone_in e w xs)) (alone_in e v (xs ++ Step ∷ [])) refl (sym stepped) refl refl refl)
+          ∙ brings.alone (xs ++ Step ∷ [])
+          ∙ same_alone (alone_in e (after v (act_reply e act v)) ((xs ++ Step ∷ []) ++ more)) (alone_in e (after w reply) (xs ++ reply.items e))
+          (append_assoc xs (Step ∷ []) more ∙ ap (λ ys. xs ++ ys) (sym items)) absorbs refl refl refl;
       clear = brings.clear;
       quantum = brings.quantum;
       runner = brings.runner;

@@ -5,21 +5,22 @@ use Rattle.revocation_book.specs.Takings.{TakingsAreTakable}
 use Rattle.call_verdicts.specs.Granted.{AgainAsks, GrantedMay}
 use Rattle.run_model.specs.Boot.{boot_items}
 use Rattle.run_model.specs.Run.{IsFoldOfFeed, System, feed, world_after}
-use Rattle.quiet_law.specs.Alone.{Course, quiet_course}
+use Rattle.quiet_law.specs.Alone.{Alone, quiet_course}
 use Rattle.quiet_law.specs.Quiet.{IsQuietInBoth, IsQuiet, QuietHasOwnPagesAlone, QuietIsAlone, QuietOwesAlone}
 use Rattle.run_model.specs.Slices.{IsEndOf, SlicesEndLast, SlicesEndStopped}
+use Rattle.quiet_law.proofs.Rest.{alone_in}
 use Rattle.quiet_law.proofs.Slicing.{at_slice_end, ready}
 
 module _ (granted : GrantedMay) (again : AgainAsks) (rich : RichestHasMost) (takable : TakingsAreTakable) (fold : IsFoldOfFeed) (stopped : SlicesEndStopped) (last : SlicesEndLast) where
   given_alone : (system : System) (e n t : ℕ) → 0 < system.image.quantum → IsQuiet system e t → IsEndOf system e n t
-      → record { items = feed system e t; excess = (world_after system t).book.excess e } ≡ quiet_course e (boot_items system.image e) system.image.quantum n
+      → alone_in e (world_after system t) (feed system e t) ≡ quiet_course e (boot_items system.image e) system.image.quantum n
   given_alone system e n t some quiet ends = at_slice_end granted again rich takable system e t some quiet fold stopped last n t (omega arith) ends
 
   pub quiet_is_alone : QuietIsAlone
-  quiet_is_alone system e n t some quiet ends = ap (λ (c : Course). c.items) (given_alone system e n t some quiet ends)
+  quiet_is_alone system e n t some quiet ends = ap (λ (a : Alone). a.items) (given_alone system e n t some quiet ends)
 
   pub quiet_owes_alone : QuietOwesAlone
-  quiet_owes_alone system e n t some quiet ends = ap (λ (c : Course). c.excess) (given_alone system e n t some quiet ends)
+  quiet_owes_alone system e n t some quiet ends = ap (λ (a : Alone). a.excess) (given_alone system e n t some quiet ends)
 
   pub quiet_has_own_pages_alone : QuietHasOwnPagesAlone
   quiet_has_own_pages_alone system e t some quiet =
@@ -38,11 +39,11 @@ module _ (granted : GrantedMay) (again : AgainAsks) (rich : RichestHasMost) (tak
     pub same_feed : feed left e t ≡ feed right e u
     same_feed =
         quiet_is_alone left e n t both.quantum_some both.left_quiet both.left_end
-        ∙ ap (λ (c : Course). c.items) same_course
+        ∙ ap (λ (a : Alone). a.items) same_course
         ∙ sym (quiet_is_alone right e n u right_some both.right_quiet both.right_end)
 
     pub same_excess : (world_after left t).book.excess e ≡ (world_after right u).book.excess e
     same_excess =
         quiet_owes_alone left e n t both.quantum_some both.left_quiet both.left_end
-        ∙ ap (λ (c : Course). c.excess) same_course
+        ∙ ap (λ (a : Alone). a.excess) same_course
         ∙ sym (quiet_owes_alone right e n u right_some both.right_quiet both.right_end)

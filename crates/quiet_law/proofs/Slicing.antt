@@ -1,5 +1,5 @@
 -- Tick by tick: what a quiet environment was given, and the rest of its slice, are what it makes alone.
-use Rattle.std.proofs.Common.{◌≡◌, ◌<◌, ◌≤◌, ◌+◌, ℕ, zero, suc, [], ◌++◌, Bool, true, false, Option, None, Some, refl, sym, ◌∙◌, ap, subst, arith}
+use Rattle.std.proofs.Common.{◌≡◌, ◌<◌, ◌≤◌, ◌+◌, ℕ, zero, suc, List, [], ◌++◌, Bool, true, false, Option, None, Some, refl, sym, ◌∙◌, ap, subst, arith}
 use Rattle.std.specs.Prelude.{◌||◌, ◌&&◌, not, if◌then◌else◌, is_none}
 use Rattle.std.specs.List.{list_any}
 use Rattle.std.proofs.lemmas.Bool.{and_parts, or_parts}
@@ -8,10 +8,12 @@ use Rattle.revocation_book.specs.Richest.{RichestHasMost}
 use Rattle.revocation_book.specs.Takings.{TakingsAreTakable}
 use Rattle.call_verdicts.specs.Granted.{AgainAsks, GrantedMay}
 use Rattle.world_model.specs.declared.call.Call.{Call}
+use Rattle.world_model.specs.declared.slot.Phase.TheVariants as phase
 use Rattle.world_model.specs.declared.slot.Runner.{Runner}
 use Rattle.world_model.specs.Book.{is_idle_book, is_runner, next_held_turn}
+use Rattle.world_model.specs.Item.{Item, absorb_all}
 use Rattle.world_model.specs.PageCalls.{revocations}
-use Rattle.world_model.specs.Solo.{Solo}
+use Rattle.world_model.specs.Solo.{absent}
 use Rattle.world_model.specs.Step.{Calls}
 use Rattle.world_model.specs.Tick.{served, turn}
 use Rattle.world_model.specs.World.{World, in_turn, run_phases}
@@ -21,22 +23,33 @@ use Rattle.run_model.specs.Excess.{IsAccounted}
 use Rattle.run_model.specs.Run.{IsFoldOfFeed, System, after_phase, feed, happens_in, items_in, next_phases, once_happened, takings_next, world_after}
 use Rattle.run_model.proofs.Balance.{boots_accounted, ticks_keep_accounts}
 use Rattle.run_model.proofs.Phases.{moments_in_order}
-use Rattle.quiet_law.specs.Alone.{Course, is_quiet_call, items_first, quiet_course, quiet_slice, slice_behind, slice_over}
+use Rattle.quiet_law.specs.Alone.{Alone, is_quiet_call, quiet_course, quiet_slice}
 use Rattle.quiet_law.specs.Quiet.{IsQuiet}
 use Rattle.run_model.specs.Slices.{IsEndOf, SlicesEndLast, SlicesEndStopped, begins_in, begins_slice, ends_in, runs_after, slices}
 use Rattle.quiet_law.proofs.Booting.{boot_imaged, boot_still}
-use Rattle.quiet_law.proofs.Rest.{rest_if, rest_in}
-use Rattle.quiet_law.proofs.Ticks.{Begins, GoesOn, IsStill, Out, Tells, Told, items_twice, rest_at, tick_tells}
+use Rattle.quiet_law.proofs.Rest.{alone_in, end_over, left_of, phase_of, same_alone}
+use Rattle.quiet_law.proofs.Ticks.{Begins, GoesOn, IsStill, Out, Tells, Told, rest_at, tick_tells}
 
 -- a board on which nobody runs and no slot is held stays as it is
 idle_runs : (e : ℕ) (o : Option Runner) (none : Bool) → (is_none o && none) ≡ true → is_runner e o ≡ false
 idle_runs e None none idle = refl
 idle_runs e (Some r) none idle = cc
 
--- where the environment doesn't run nothing is to come
-pub rest_out : (e quantum excess : ℕ) (o : Option Runner) (s : Solo) → is_runner e o ≡ false → rest_in e quantum excess o s ≡ slice_over excess
-rest_out e quantum excess None s out = refl
-rest_out e quantum excess (Some r) s out = ap (λ (t : Bool). rest_if t quantum excess r.left r.phase s) out
+-- an environment that doesn't run has no tick left
+left_out : (e : ℕ) (o : Option Runner) → is_runner e o ≡ false → left_of e o ≡ 0
+left_out e None out = refl
+left_out e (Some r) out = ap (λ (t : Bool). if t then r.left else 0) out
+
+phase_out : (e : ℕ) (o : Option Runner) → is_runner e o ≡ false → phase_of e o ≡ phase.Own
+phase_out e None out = refl
+phase_out e (Some r) out = ap (λ (t : Bool). if t then r.phase else phase.Own) out
+
+rest_out : (e q : ℕ) (w : World) (items : List Item) → is_runner e w.book.runner ≡ false → rest_at e q w items ≡ alone_in e w items
+rest_out e q w items out = end_over q (alone_in e w items) (left_out e w.book.runner out)
+
+-- between slices it may be forgiven what it owes
+abbrev free : Alone → Alone
+free a = record a { excess = 0 }
 
 module _ (granted : GrantedMay) (again : AgainAsks) (rich : RichestHasMost) (takable : TakingsAreTakable) (system : System) (e most : ℕ) (some : 0 < system.image.quantum) (quiet : IsQuiet system e most) where
   abbrev q : ℕ
@@ -79,16 +92,19 @@ module _ (granted : GrantedMay) (again : AgainAsks) (rich : RichestHasMost) (tak
       let tells = tick_told t (omega (arith, below)) before in
       record { still = tells.still; quantum = tells.quantum ∙ before.quantum }
 
-  -- What it was given, and the rest of its slice where it runs, are what it makes alone.
-  abbrev course : ℕ → Course
+  -- The end of its slice where it runs, and else itself, is what it makes alone.
+  abbrev course : ℕ → Alone
   course n = quiet_course e (boot_items system.image e) q n
 
-  abbrev so_far : ℕ → Course
-  so_far t = items_first (feed system e t) (rest_at e q (world_after system t))
+  abbrev here : ℕ → Alone
+  here t = alone_in e (world_after system t) (feed system e t)
+
+  abbrev so_far : ℕ → Alone
+  so_far t = rest_at e q (world_after system t) (feed system e t)
 
   pub record IsAlone (t : ℕ) : Type 0 where
     pub runs : runs_after system e t ≡ true → so_far t ≡ course (suc (slices system e t))
-    pub waits : runs_after system e t ≡ false → feed system e t ≡ (course (slices system e t)).items
+    pub waits : runs_after system e t ≡ false → free (here t) ≡ free (course (slices system e t))
 
   -- behind a tick in which it runs, or in which its slice begins
   one_more : (n : ℕ) → n + 1 ≡ suc n
@@ -98,10 +114,8 @@ module _ (granted : GrantedMay) (again : AgainAsks) (rich : RichestHasMost) (tak
   goes_on t in_slice is = record {
     runs = λ on. is ∙ ap (λ n. course (suc n)) (sym (counted true false on (ap (λ (own : Bool). own && not true) in_slice) ∙ nothing_more));
     waits = λ off.
-        sym (append-nil (feed system e (suc t)))
-        ∙ ap (λ (rest : Course). feed system e (suc t) ++ rest.items) (sym (rest_out e q ((world_after system (suc t)).book.excess e) (world_after system (suc t)).book.runner ((world_after system (suc t)).solos e) off))
-        ∙ ap (λ (c : Course). c.items) is
-        ∙ ap (λ n. (course n).items) (sym (counted false true off (ap (λ (own : Bool). own && not false) in_slice) ∙ one_more (slices system e t)));
+        ap free (sym (rest_out e q (world_after system (suc t)) (feed system e (suc t)) off) ∙ is)
+        ∙ ap (λ n. free (course n)) (sym (counted false true off (ap (λ (own : Bool). own && not false) in_slice) ∙ one_more (slices system e t)));
   }
     where
       nothing_more : slices system e t + 0 ≡ slices system e t
@@ -117,16 +131,13 @@ module _ (granted : GrantedMay) (again : AgainAsks) (rich : RichestHasMost) (tak
         before : IsReady t
         before = ready t (omega (arith, below))
 
+        -- the quantum is the image's
+        told : (before_it : ℕ → Alone) → before_it (world_after system t).book.quantum ≡ rest_at e (world_after system t).book.quantum (world_after system (suc t)) (feed system e (suc t)) → before_it q ≡ so_far (suc t)
+        told before_it is = subst (λ n. before_it n ≡ rest_at e n (world_after system (suc t)) (feed system e (suc t))) before.quantum is
+
         by_told : Told e (world_after system t) (world_after system (suc t)) (items_in system t e) → so_far (suc t) ≡ course (suc (slices system e t))
-        by_told (GoesOn own is) =
-            sym (ap (items_first (feed system e t)) (ap (λ n. rest_at e n (world_after system t)) (sym before.quantum) ∙ is ∙ ap (λ n. items_first (items_in system t e) (rest_at e n (world_after system (suc t)))) before.quantum)
-            ∙ items_twice (feed system e t) (items_in system t e) (rest_at e q (world_after system (suc t))))
-            ∙ alone.runs own
-        by_told (Begins other begins is) =
-            sym (ap (items_first (feed system e t)) (ap (λ n. quiet_slice n ((world_after system t).solos e)) (sym before.quantum) ∙ is ∙ ap (λ n. items_first (items_in system t e) (rest_at e n (world_after system (suc t)))) before.quantum)
-            ∙ items_twice (feed system e t) (items_in system t e) (rest_at e q (world_after system (suc t))))
-            ∙ ap (λ s. items_first (feed system e t) (quiet_slice q s)) (fold system t e)
-            ∙ ap (slice_behind e q) (alone.waits other)
+        by_told (GoesOn own is) = sym (told (λ n. rest_at e n (world_after system t) (feed system e t)) (is (feed system e t))) ∙ alone.runs own
+        by_told (Begins other begins is) = sym (told (λ n. quiet_slice n (here t)) (is (feed system e t))) ∙ ap (quiet_slice q) (alone.waits other)
         by_told (Out other none out) =
             let clash : false ≡ true = sym (ap (λ (own : Bool). own || begins_in system e t) other ∙ ap (list_any begins_slice) none) ∙ active in cc
 
@@ -136,9 +147,15 @@ module _ (granted : GrantedMay) (again : AgainAsks) (rich : RichestHasMost) (tak
         let parts = or_parts (runs_after system e t) (begins_in system e t) idle in
         let no_end : ends_in system e t ≡ false = ap (λ (active : Bool). active && not (runs_after system e (suc t))) idle in
         let same : slices system e (suc t) ≡ slices system e t = ap (λ (ends : Bool). slices system e t + (if ends then 1 else 0)) no_end ∙ omega arith in
+        let items : feed system e (suc t) ≡ feed system e t = ap (λ items. feed system e t ++ items) none ∙ append-nil (feed system e t) in
+        let v = world_after system (suc t) in
+        let w = world_after system t in
+        let stays : free (here (suc t)) ≡ free (here t) =
+        same_alone (free (here (suc t))) (free (here t)) items (fold system (suc t) e ∙ ap (absorb_all (absent e)) items ∙ sym (fold system t e))
+        (left_out e v.book.runner out ∙ sym (left_out e w.book.runner parts.0)) (phase_out e v.book.runner out ∙ sym (phase_out e w.book.runner parts.0)) refl in
         record {
           runs = λ on. (let clash : true ≡ false = sym on ∙ out in cc);
-          waits = λ off. ap (λ items. feed system e t ++ items) none ∙ append-nil (feed system e t) ∙ alone.waits parts.0 ∙ ap (λ n. (course n).items) (sym same);
+          waits = λ off. stays ∙ alone.waits parts.0 ∙ ap (λ n. free (course n)) (sym same);
         }
 
     module _ (t : ℕ) (few : t < most) (before : IsAlone t) where
@@ -151,23 +168,25 @@ module _ (granted : GrantedMay) (again : AgainAsks) (rich : RichestHasMost) (tak
       by_active true active = goes_on t active (in_slice t few before active)
       by_active false idle = by_told idle (tick_told t few (ready t (omega (arith, few)))).told
 
+    at_boot : (excess : ℕ → ℕ) → excess ≡ (λ i. 0) → record (here 0) { excess = excess e } ≡ course 0
+    at_boot excess none =
+        let nobody = (boot_imaged system.image).runner in
+        same_alone (record (here 0) { excess = excess e }) (course 0) refl refl (ap (left_of e) nobody) (ap (phase_of e) nobody) (ap (λ (f : ℕ → ℕ). f e) none)
+
     pub alone : (t : ℕ) → t ≤ most → IsAlone t
     alone zero below = record {
       runs = λ on. (let clash : true ≡ false = sym on ∙ ap (is_runner e) (boot_imaged system.image).runner in cc);
-      waits = λ off. refl;
+      waits = λ off. at_boot (λ i. 0) refl;
     }
     alone (suc t) below = by_active t (omega (arith, below)) (alone t (omega (arith, below))) (runs_after system e t || begins_in system e t) refl
 
-    -- At the end of a slice it was given what it makes alone, and owes it.
-    pub at_slice_end : SlicesEndStopped → SlicesEndLast → (n t : ℕ) → t ≤ most → IsEndOf system e n t → record { items = feed system e t; excess = (world_after system t).book.excess e } ≡ course n
-    at_slice_end stopped last n zero below ends =
-        ap (λ (f : ℕ → ℕ). record { items = boot_items system.image e; excess = f e }) (boot_imaged system.image).excess ∙ ap course ends.reached
+    -- At the end of a slice it is what it makes alone.
+    pub at_slice_end : SlicesEndStopped → SlicesEndLast → (n t : ℕ) → t ≤ most → IsEndOf system e n t → here t ≡ course n
+    at_slice_end stopped last n zero below ends = at_boot (boot_world system.image).book.excess (boot_imaged system.image).excess ∙ ap course ends.reached
     at_slice_end stopped last n (suc t) below ends =
         let ended = last system e n t ends in
         let active = (and_parts (runs_after system e t || begins_in system e t) (not (runs_after system e (suc t))) ended).0 in
-        let v = world_after system (suc t) in
         let number : suc (slices system e t) ≡ n = sym (one_more (slices system e t)) ∙ ap (λ (b : Bool). slices system e t + (if b then 1 else 0)) (sym ended) ∙ ends.reached in
-        ap (λ items. record { items = items; excess = v.book.excess e }) (sym (append-nil (feed system e (suc t))))
-        ∙ ap (items_first (feed system e (suc t))) (sym (rest_out e q (v.book.excess e) v.book.runner (v.solos e) (stopped system e n (suc t) ends)))
+        sym (rest_out e q (world_after system (suc t)) (feed system e (suc t)) (stopped system e n (suc t) ends))
         ∙ in_slice t (omega (arith, below)) (alone t (omega (arith, below))) active
         ∙ ap course number

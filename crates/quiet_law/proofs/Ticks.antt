@@ -1,9 +1,10 @@
 -- A tick of a world in which an environment is quiet.
 use Rattle.std.proofs.Common.{◌≡◌, ◌<◌, ℕ, List, [], ◌∷◌, ◌++◌, map, Bool, true, false, Option, None, Some, inl, inr, refl, sym, ◌∙◌, ap, subst, append_assoc}
-use Rattle.std.specs.Prelude.{if◌then◌else◌}
+use Rattle.std.specs.Prelude.{◌+◌, ◌*◌, if◌then◌else◌}
 use Rattle.std.specs.List.{list_any}
 use Rattle.std.proofs.lemmas.Bool.{eq-eqb, eqb-true, eqb-false}
 use Rattle.std.proofs.lemmas.List.{append-nil}
+use Rattle.aegis_limits.specs.Limits.{excess_limit}
 use Rattle.external_event.specs.declared.event.Occurrence.{Occurrence}
 use Rattle.revocation_book.specs.Richest.{RichestHasMost}
 use Rattle.revocation_book.specs.Takings.{AreTakable}
@@ -28,7 +29,7 @@ use Rattle.run_model.proofs.Balance.{happen_accounts, taking_accounts}
 use Rattle.run_model.proofs.Lives.{keep_none}
 use Rattle.run_model.proofs.Phases.{run_append}
 use Rattle.run_model.proofs.Replies.{still_accounts}
-use Rattle.quiet_law.specs.Alone.{Course, is_quiet_call, item_first, items_first, own_end, quiet_slice, slice_over, ticks_alone}
+use Rattle.quiet_law.specs.Alone.{Alone, count_alone, is_quiet_call, quiet_slice, tick_alone, ticks_alone, with_item}
 use Rattle.quiet_law.specs.Quiet.{is_asking}
 use Rattle.run_model.specs.Slices.{begins_slice}
 use Rattle.quiet_law.proofs.Clear.{IsClear}
@@ -37,7 +38,7 @@ use Rattle.quiet_law.proofs.Nothing.{HasNothing, start_nothing}
 use Rattle.quiet_law.proofs.Others.{IsAside, Passes, Waits}
 use Rattle.quiet_law.proofs.Own.{Steps, own_steps}
 use Rattle.quiet_law.proofs.Passing.{same_solo, step_passes, timer_passes}
-use Rattle.quiet_law.proofs.Rest.{IfRuns, RunsWithin, due_in, rest_in, rest_runs}
+use Rattle.quiet_law.proofs.Rest.{IfRuns, OwesWithin, RunsWithin, alone_in, left_of, left_runs, phase_of, phase_runs, same_alone, ten_quanta, tick_to_end, to_end}
 use Rattle.quiet_law.proofs.Timing.{Times, own_times, some_same}
 use Rattle.quiet_law.proofs.Turning.{Another, Itself, RunsOn, Starts, StartsOther, Turns, turn_told}
 
@@ -47,19 +48,16 @@ pub record IsStill (e : ℕ) (w : World) : Type 0 where
   pub nothing : HasNothing (w.solos e)
   pub within : IfRuns e (w.book.excess e) w.book.runner
 
-abbrev pub rest_at : ℕ → ℕ → World → Course
-rest_at e quantum w = rest_in e quantum (w.book.excess e) w.book.runner (w.solos e)
+-- the end of its slice, if it was given these items
+abbrev pub rest_at : ℕ → ℕ → World → List Item → Alone
+rest_at e quantum w items = to_end quantum (alone_in e w items)
 
--- items in two parts
-pub items_twice : (xs ys : List Item) (rest : Course) → items_first xs (items_first ys rest) ≡ items_first (xs ++ ys) rest
-items_twice xs ys rest = ap (λ items. record { items = items; excess = rest.excess }) (sym (append_assoc xs ys rest.items))
-
--- From one world to another, by these items: where it runs, the rest of its slice is these and the rest behind them;
--- else it is given nothing, and doesn't run.
+-- From one world to another, by these items: where it runs, its slice has the same end with them; else it is given
+-- nothing, and doesn't run.
 pub record Goes (e : ℕ) (w v : World) (items : List Item) : Type 0 where
   pub still : IsStill e v
   pub quantum : v.book.quantum ≡ w.book.quantum
-  pub course : is_runner e w.book.runner ≡ true → rest_at e w.book.quantum w ≡ items_first items (rest_at e w.book.quantum v)
+  pub course : is_runner e w.book.runner ≡ true → (xs : List Item) → rest_at e w.book.quantum w xs ≡ rest_at e w.book.quantum v (xs ++ items)
   pub out : is_runner e w.book.runner ≡ false → (items ≡ []) × (is_runner e v.book.runner ≡ false)
 
 -- The step and the timer.
@@ -86,7 +84,7 @@ module _ (granted : GrantedMay) (again : AgainAsks) (rich : RichestHasMost) (e :
 
     steps : Steps e w r (step w)
     steps = subst (Steps e w r) (sym is_own)
-        (own_steps e w still.clear still.nothing r runs its within.left (λ c is. quiet c (record { runs = ap running runs ∙ ap (λ n. Some n) its; comes = is })))
+        (own_steps e w still.clear still.nothing r runs (λ c is. quiet c (record { runs = ap running runs ∙ ap (λ n. Some n) its; comes = is })))
 
     runs_still : (x : Runner) → u.book.runner ≡ Some x → (x.env ≡ e) × RunsWithin (u.book.excess e) x
     runs_still x is = elim steps.runner [
@@ -97,18 +95,28 @@ module _ (granted : GrantedMay) (again : AgainAsks) (rich : RichestHasMost) (e :
     times : Times e u (timer u)
     times = own_times e u steps.clear steps.nothing (subst (λ n. 0 < n) (sym steps.quantum) some) u.book.runner refl runs_still
 
+    ticked : (xs : List Item) → tick_alone q (alone_in e w xs) ≡ alone_in e v (xs ++ given)
+    ticked xs =
+        let ys = (step w).items e in
+        let zs = (timer u).items e in
+        ap (count_alone q) (steps.alone xs)
+        ∙ ap (λ (n : ℕ). count_alone n (alone_in e u (xs ++ ys))) (sym steps.quantum)
+        ∙ times.alone (xs ++ ys)
+        ∙ ap (alone_in e v) (append_assoc xs ys zs ∙ ap (λ (more : List Item). xs ++ (ys ++ more)) (sym (append-nil zs)))
+
+    its_left : left_of e w.book.runner ≡ r.left
+    its_left = ap (left_of e) runs ∙ left_runs e r its
+
+    its_phase : phase_of e w.book.runner ≡ r.phase
+    its_phase = ap (phase_of e) runs ∙ phase_runs e r its
+
     runner_goes : Goes e w v given
     runner_goes = record {
       still = record { clear = times.clear; nothing = times.nothing; within = times.within };
       quantum = times.quantum ∙ steps.quantum;
-      course = λ own.
-          ap (λ o. rest_in e q (w.book.excess e) o (w.solos e)) runs ∙ rest_runs e q (w.book.excess e) r (w.solos e) its
-          ∙ steps.course
-          ∙ ap (λ n. items_first ((step w).items e) (due_in e n (u.book.excess e) u.book.runner (u.solos e))) (sym steps.quantum)
-          ∙ ap (items_first ((step w).items e)) times.course
-          ∙ ap (λ n. items_first ((step w).items e) (items_first ((timer u).items e) (rest_at e n v))) steps.quantum
-          ∙ items_twice ((step w).items e) ((timer u).items e) (rest_at e q v)
-          ∙ ap (λ xs. items_first ((step w).items e ++ xs) (rest_at e q v)) (sym (append-nil ((timer u).items e)));
+      course = λ own xs.
+          tick_to_end q (alone_in e w xs) (subst (λ (n : ℕ). 0 < n) (sym its_left) within.left) (subst (OwesWithin (w.book.excess e)) (sym its_phase) within.owes)
+          ∙ ap (to_end q) (ticked xs);
       out = λ other. (let clash : true ≡ false = sym (eq-eqb r.env e its) ∙ ap (is_runner e) (sym runs) ∙ other in cc);
     }
 
@@ -138,7 +146,7 @@ module _ (granted : GrantedMay) (again : AgainAsks) (rich : RichestHasMost) (e :
         within = λ r is its. (let clash : true ≡ false = sym (eq-eqb r.env e its) ∙ ap (is_runner e) (sym is) ∙ next.out in cc);
       };
       quantum = next.aside.quantum ∙ first.aside.quantum;
-      course = λ own. (let clash : true ≡ false = sym own ∙ out in cc);
+      course = λ own xs. (let clash : true ≡ false = sym own ∙ out in cc);
       out = λ other. (ap (λ (xs : List Item). xs ++ ((timer u).items e ++ [])) first.aside.nothing ∙ ap (λ (xs : List Item). xs ++ []) next.aside.nothing, next.out);
     }
 
@@ -153,8 +161,8 @@ module _ (granted : GrantedMay) (again : AgainAsks) (rich : RichestHasMost) (e :
 -- A tick, or its phases from the turn on: the environment's slice goes on, or one begins, or it is given nothing and
 -- doesn't run behind it.
 pub data Told (e : ℕ) (w v : World) (items : List Item) : Type 0 where
-  GoesOn : is_runner e w.book.runner ≡ true → rest_at e w.book.quantum w ≡ items_first items (rest_at e w.book.quantum v) → Told e w v items
-  Begins : is_runner e w.book.runner ≡ false → list_any begins_slice items ≡ true → quiet_slice w.book.quantum (w.solos e) ≡ items_first items (rest_at e w.book.quantum v) → Told e w v items
+  GoesOn : is_runner e w.book.runner ≡ true → ((xs : List Item) → rest_at e w.book.quantum w xs ≡ rest_at e w.book.quantum v (xs ++ items)) → Told e w v items
+  Begins : is_runner e w.book.runner ≡ false → list_any begins_slice items ≡ true → ((xs : List Item) → quiet_slice w.book.quantum (alone_in e w xs) ≡ rest_at e w.book.quantum v (xs ++ items)) → Told e w v items
   Out : is_runner e w.book.runner ≡ false → items ≡ [] → is_runner e v.book.runner ≡ false → Told e w v items
 
 pub record Tells (e : ℕ) (w v : World) (items : List Item) : Type 0 where
@@ -206,14 +214,12 @@ module _ (granted : GrantedMay) (again : AgainAsks) (rich : RichestHasMost) (e :
     on_items = ap (λ (xs : List Item). xs ++ given_behind) a.nothing
 
     by_own : (own : Bool) → is_runner e w.book.runner ≡ own → Told e w behind all_given
-    by_own true own = GoesOn own
-        (ap (λ (n : ℕ). rest_in e w.book.quantum n w.book.runner (w.solos e)) (sym a.excess)
-        ∙ ap (λ (o : Option Runner). rest_in e w.book.quantum (turned.book.excess e) o (w.solos e)) (sym waits.runner)
-        ∙ ap (λ (s : Solo). rest_in e w.book.quantum (turned.book.excess e) turned.book.runner s) (sym same)
-        ∙ ap (λ (n : ℕ). rest_at e n turned) (sym a.quantum)
-        ∙ on_goes.course (ap (is_runner e) waits.runner ∙ own)
-        ∙ ap (λ (n : ℕ). items_first given_behind (rest_at e n behind)) a.quantum
-        ∙ ap (λ (xs : List Item). items_first xs (rest_at e w.book.quantum behind)) (sym on_items))
+    by_own true own = GoesOn own (λ xs.
+        ap (to_end w.book.quantum) (same_alone (alone_in e w xs) (alone_in e turned xs) refl (sym same) (ap (left_of e) (sym waits.runner)) (ap (phase_of e) (sym waits.runner)) (sym a.excess))
+        ∙ ap (λ (n : ℕ). rest_at e n turned xs) (sym a.quantum)
+        ∙ on_goes.course (ap (is_runner e) waits.runner ∙ own) xs
+        ∙ ap (λ (n : ℕ). rest_at e n behind (xs ++ given_behind)) a.quantum
+        ∙ ap (λ (ys : List Item). rest_at e w.book.quantum behind (xs ++ ys)) (sym on_items))
     by_own false own = let away = on_goes.out (ap (is_runner e) waits.runner ∙ own) in Out own (on_items ∙ away.0) away.1
 
     runs_on : Tells e w behind all_given
@@ -240,17 +246,19 @@ module _ (granted : GrantedMay) (again : AgainAsks) (rich : RichestHasMost) (e :
     start_items : all_given ≡ Start ∷ given_behind
     start_items = ap (λ (xs : List Item). xs ++ given_behind) begins.items
 
-    start_course : quiet_slice w.book.quantum (w.solos e) ≡ items_first all_given (rest_at e w.book.quantum behind)
-    start_course =
-        ap (λ (life : Life). if is_dead life then slice_over 0 else item_first Start (ticks_alone (own_end w.book.quantum) 0 w.book.quantum (absorb (w.solos e) Start))) begins.lives
-        ∙ ap (λ (s : Solo). item_first Start (ticks_alone (own_end w.book.quantum) 0 w.book.quantum s)) (sym started)
-        ∙ ap (λ (n : ℕ). item_first Start (ticks_alone (own_end w.book.quantum) n w.book.quantum (turned.solos e))) (sym begins.free)
-        ∙ ap (item_first Start) (sym (rest_runs e w.book.quantum (turned.book.excess e) runner (turned.solos e) refl))
-        ∙ ap (λ (o : Option Runner). item_first Start (rest_in e w.book.quantum (turned.book.excess e) o (turned.solos e))) (sym begins.runs)
-        ∙ ap (λ (n : ℕ). item_first Start (rest_at e n turned)) (sym begins.quantum)
-        ∙ ap (item_first Start) (start_goes.course (ap (is_runner e) begins.runs ∙ eq-eqb e e refl))
-        ∙ ap (λ (n : ℕ). item_first Start (items_first given_behind (rest_at e n behind))) begins.quantum
-        ∙ ap (λ (xs : List Item). items_first xs (rest_at e w.book.quantum behind)) (sym start_items)
+    start_course : (xs : List Item) → quiet_slice w.book.quantum (alone_in e w xs) ≡ rest_at e w.book.quantum behind (xs ++ all_given)
+    start_course xs =
+        let q = w.book.quantum in
+        let a = with_item Start (record (alone_in e w xs) { left = q; phase = phase.Own; excess = 0 }) in
+        let ys = xs ++ Start ∷ [] in
+        ap (λ (life : Life). if is_dead life then record (alone_in e w xs) { excess = 0 } else ticks_alone q ((2 + excess_limit) * q) a) begins.lives
+        ∙ ap (λ (n : ℕ). ticks_alone q n a) (ten_quanta q)
+        ∙ ap (to_end q) (same_alone a (alone_in e turned ys) refl (sym started)
+        (sym (ap (left_of e) begins.runs ∙ left_runs e runner refl)) (sym (ap (phase_of e) begins.runs ∙ phase_runs e runner refl)) (sym begins.free))
+        ∙ ap (λ (n : ℕ). rest_at e n turned ys) (sym begins.quantum)
+        ∙ start_goes.course (ap (is_runner e) begins.runs ∙ eq-eqb e e refl) ys
+        ∙ ap (λ (n : ℕ). rest_at e n behind (ys ++ given_behind)) begins.quantum
+        ∙ ap (rest_at e q behind) (append_assoc xs (Start ∷ []) given_behind ∙ ap (λ (zs : List Item). xs ++ zs) (sym start_items))
 
     itself : Tells e w behind all_given
     itself = record {
@@ -331,18 +339,16 @@ module _ (granted : GrantedMay) (again : AgainAsks) (rich : RichestHasMost) (e :
     from_turn : Tells e served ended ((in_turn late served).items e)
     from_turn = turn_tells granted again rich e served ready (takings_account xs happened (events_account happens w accounted)) (subst (λ n. 0 < n) (sym before.quantum) some) quiet
 
-    rest_before : rest_at e served.book.quantum served ≡ rest_at e w.book.quantum w
-    rest_before =
-        ap (λ (n : ℕ). rest_at e n served) before.quantum
-        ∙ ap (λ (n : ℕ). rest_in e w.book.quantum n served.book.runner (served.solos e)) before.excess
-        ∙ ap (λ (o : Option Runner). rest_in e w.book.quantum (w.book.excess e) o (served.solos e)) before.runner
-        ∙ ap (rest_in e w.book.quantum (w.book.excess e) w.book.runner) before.solo
+    same_before : (xs : List Item) → alone_in e served xs ≡ alone_in e w xs
+    same_before xs = same_alone (alone_in e served xs) (alone_in e w xs) refl before.solo (ap (left_of e) before.runner) (ap (phase_of e) before.runner) before.excess
 
     from_start : {items : List Item} → Told e served ended items → Told e w ended items
-    from_start {items} (GoesOn own course) = GoesOn (ap (is_runner e) (sym before.runner) ∙ own) (sym rest_before ∙ course ∙ ap (λ (n : ℕ). items_first items (rest_at e n ended)) before.quantum)
-    from_start {items} (Begins other begins course) =
-        Begins (ap (is_runner e) (sym before.runner) ∙ other) begins
-        (ap (λ (n : ℕ). quiet_slice n (w.solos e)) (sym before.quantum) ∙ ap (quiet_slice served.book.quantum) (sym before.solo) ∙ course ∙ ap (λ (n : ℕ). items_first items (rest_at e n ended)) before.quantum)
+    from_start {items} (GoesOn own course) = GoesOn (ap (is_runner e) (sym before.runner) ∙ own) (λ xs.
+        ap (to_end w.book.quantum) (sym (same_before xs)) ∙ ap (λ (n : ℕ). rest_at e n served xs) (sym before.quantum)
+        ∙ course xs ∙ ap (λ (n : ℕ). rest_at e n ended (xs ++ items)) before.quantum)
+    from_start {items} (Begins other begins course) = Begins (ap (is_runner e) (sym before.runner) ∙ other) begins (λ xs.
+        ap (quiet_slice w.book.quantum) (sym (same_before xs)) ∙ ap (λ (n : ℕ). quiet_slice n (alone_in e served xs)) (sym before.quantum)
+        ∙ course xs ∙ ap (λ (n : ℕ). rest_at e n ended (xs ++ items)) before.quantum)
     from_start {items} (Out other none out) = Out (ap (is_runner e) (sym before.runner) ∙ other) none out
 
     here : Tells e w ended ((in_turn late served).items e)
