@@ -2,6 +2,7 @@
 
 from __future__ import annotations
 
+import python_version  # first: ends the tool where Python is too old
 import functools
 import os
 import subprocess

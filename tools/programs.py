@@ -42,11 +42,14 @@ LINT = tool("lint")
 COMPILER = "mipsel-linux-gnu-gcc"
 # What a compiler or linker of C lacks here, and why.
 LACKING = (
-    (r"(?:stdio|stdlib|string|math|unistd|time|errno|assert|ctype)\.h\b"
+    (r"(?:stdio|stdlib|string|math|unistd|time|errno|assert|ctype|inttypes|signal|setjmp|fcntl|locale|wchar)\.h\b|gnu/stubs\S*\.h"
      r"|undefined reference to .(?:\w*printf|puts|putchar|scanf|malloc|free|exit|strlen|strcmp)\b",
      "There is no C library: `#include \"aegis.h\"` has print, print_number and the kernel calls, and `examples/c/README.md` says what else there is."),
     (r"undefined reference to .__\w*[sd]f\w*",
      "There is no floating point: the machine has no unit for it, and nothing here computes it. Count in whole parts, such as thousandths."),
+    (r"undefined reference to .__(?!\w*[sd]f)\w+",
+     "The compiler calls this function by its name, and its own library isn't linked: `examples/c/library.c` has those that there are. Compute it "
+     "in another way, or write a function of this name."),
 )
 USAGE, REFUSED, UNREAD, UNWRITTEN = 2, 3, 4, 5
 STACK = 4  # pages

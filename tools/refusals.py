@@ -31,7 +31,7 @@ SOURCE = {
     "Empty": "the source has no instruction in `.text`",
 }
 MANIFEST = {
-    "Syntax": "the line isn't of the form that is due here",
+    "Syntax": "this isn't the line that is expected here",
     "Range": "a word isn't a number, or a number or a name is outside its limits",
     "Many": f"there are too many environments: the most are {MOST_ENVIRONMENTS}",
 }
@@ -74,7 +74,7 @@ SCHEDULE = {
     "Many": f"there are more than {MOST_EVENTS:,} events",
 }
 LEDGER = {
-    "Syntax": "the line isn't of the form that is due here, or the text ends too early",
+    "Syntax": "this isn't the line that is expected here, or the text ends too early",
     "Range": "a number is outside its limits",
 }
 FLAT = {

@@ -13,6 +13,7 @@ kernel's other rules are kept isn't tested here.
 
 from __future__ import annotations
 
+import python_version  # first: ends the tool where Python is too old
 import functools
 import re
 from dataclasses import dataclass, field

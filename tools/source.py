@@ -5,6 +5,7 @@ nobody knows, or none.
 
 from __future__ import annotations
 
+import python_version  # first: ends the tool where Python is too old
 import re
 from dataclasses import dataclass, field
 from typing import Dict, List, Optional

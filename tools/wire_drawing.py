@@ -24,7 +24,7 @@ STYLE = """
               for at in range(MOST_MACHINES))
 LEGEND = {
     "packet": ('<path class="packet f0" d="M-5-7 4 5"/><circle class="comes f0" cx="4" cy="5" r="2.4"/>',
-               "a packet, from the tick in which it is sent to the one in which it comes, in the colour of its sender"),
+               "a packet, from the tick in which it is sent to the one in which it comes; the packets of a machine have one colour"),
     "late": ('<path class="packet late f0" d="M-5-7 4 5"/>', "broken: the other machine is idle, and takes none"),
     "nobody": ('<path class="nobody" d="M-3-3 3 3M3-3-3 3"/>', "a packet for the sender itself, or for no machine"),
 }

@@ -100,6 +100,24 @@ int __popcountsi2(unsigned number)
     return ones;
 }
 
+/* The same of 64 bits. */
+int __clzdi2(wide number)
+{
+    unsigned high = (unsigned)(number >> 32);
+    return high ? __clzsi2(high) : 32 + __clzsi2((unsigned)number);
+}
+
+int __ctzdi2(wide number)
+{
+    unsigned low = (unsigned)number;
+    return low ? __ctzsi2(low) : 32 + __ctzsi2((unsigned)(number >> 32));
+}
+
+int __popcountdi2(wide number)
+{
+    return __popcountsi2((unsigned)number) + __popcountsi2((unsigned)(number >> 32));
+}
+
 void *memcpy(void *to, const void *from, size length)
 {
     for (size i = 0; i < length; i++)
