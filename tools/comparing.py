@@ -6,7 +6,7 @@ from __future__ import annotations
 
 from typing import List, NamedTuple, Optional
 
-from limits import MOST_TICKS, MOST_TRACED_TICKS
+from limits import MOST_RUN_TICKS, MOST_TRACED_TICKS
 from packets import event_tick
 from programs import USAGE, Failed, Machine, aegis, content, write
 from recording import Row
@@ -76,7 +76,7 @@ class Comparison:
         is asked for a page in that tick, before all else, the first item that differs is this."""
         own = content(f"{self.room}/{side.schedule()}").decode("latin-1").splitlines()
         events = [(event_tick(line), line) for line in own if line.split("#")[0].split()]
-        asked = f"{tick} revoke {self.env} 1 {MOST_TICKS}"
+        asked = f"{tick} revoke {self.env} 1 {MOST_RUN_TICKS}"
         lines = [line for at, line in events if at < tick] + [asked] + [line for at, line in events if at >= tick]
         write(f"{self.room}/{PROBE}", "".join(f"{line}\n" for line in lines).encode("latin-1"))
         sides = [side.image(), side.schedule()], [side.image(), PROBE]
@@ -92,8 +92,8 @@ class Comparison:
             count = self.items_before(side, tick, slices)
             return count is not None and count <= index
         behind = 1
-        while behind < MOST_TICKS and is_reached(behind):
-            behind = min(2 * behind, MOST_TICKS)
+        while behind < MOST_RUN_TICKS and is_reached(behind):
+            behind = min(2 * behind, MOST_RUN_TICKS)
         tick = behind // 2
         while behind - tick > 1:
             middle = (tick + behind) // 2

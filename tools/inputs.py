@@ -6,7 +6,7 @@ import argparse
 import re
 from typing import List, Optional, Tuple
 
-from limits import MOST_EVENTS, MOST_PACKET_SIZE, MOST_TICKS
+from limits import MOST_EVENTS, MOST_PACKET_SIZE, MOST_RUN_TICKS
 from packets import event_tick
 from programs import USAGE, Failed, Machine, content, prepared, run, write
 from report import Report
@@ -47,8 +47,8 @@ def with_input(schedule: str, text: bytes) -> str:
     """A schedule without a fault, with the packets of a text: in their tick they come behind its own events."""
     own = [(event_tick(line), line) for line in schedule.splitlines() if line.split("#")[0].split()]
     found = [(tick, f"{tick} packet {data.hex()}") for tick, data in arrivals(text)]
-    if found[-1][0] > MOST_TICKS or len(own) + len(found) > MOST_EVENTS:
-        raise Failed(USAGE, f"--input: a text has at most {(MOST_TICKS - FIRST) // BETWEEN * MOST_TEXT:,} bytes, and a schedule {MOST_EVENTS:,} events")
+    if found[-1][0] > MOST_RUN_TICKS or len(own) + len(found) > MOST_EVENTS:
+        raise Failed(USAGE, f"--input: a text has at most {(MOST_RUN_TICKS - FIRST) // BETWEEN * MOST_TEXT:,} bytes, and a schedule {MOST_EVENTS:,} events")
     return "".join(f"{line}\n" for _, line in sorted(own + found, key=lambda it: it[0]))
 
 

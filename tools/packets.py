@@ -11,7 +11,7 @@ from collections import Counter
 from dataclasses import dataclass
 from typing import Callable, Dict, Iterable, Iterator, List, Tuple
 
-from limits import LEAST_FRAME_SIZE, MOST_DELAY, MOST_PACKET_SIZE, MOST_TICKS
+from limits import LEAST_FRAME_SIZE, MOST_DELAY, MOST_PACKET_SIZE, MOST_RUN_TICKS
 
 RECEIVER, ALL_OTHERS = 5, 0xFF  # the byte of a packet that names the machine, and the number for all of them
 NO_WIRE = "this program has no command `wire`: build the one of this version, or name it by AEGIS"
@@ -92,7 +92,7 @@ def wired_schedule(schedule: str, packets: Iterable[Packet], machine: int, machi
     machine runs alone as it does on the wire."""
     own = [(event_tick(line), line) for line in schedule.splitlines() if line.split("#")[0].split()]
     arrivals = [(it.tick + delay, f"{it.tick + delay} packet {it.data.hex()}") for it in packets if machine in it.receivers(machines)]
-    return "".join(f"{line}\n" for tick, line in sorted(own + arrivals, key=lambda it: it[0]) if tick <= MOST_TICKS)
+    return "".join(f"{line}\n" for tick, line in sorted(own + arrivals, key=lambda it: it[0]) if tick <= MOST_RUN_TICKS)
 
 
 def event_tick(line: str) -> int:

@@ -7,7 +7,7 @@ import re
 from typing import Callable, Dict, Optional
 
 from limits import (LEAST_PAGES, LEAST_QUANTUM, MOST_ASKED, MOST_EVENTS, MOST_LINE, MOST_MAPPINGS, MOST_PACKET_SIZE, MOST_QUANTUM, MOST_SLOTS,
-                    MOST_STACK_PAGES, MOST_TARGET, MOST_TICKS, VERSIONS, Version)
+                    MOST_STACK_PAGES, MOST_TARGET, MOST_RUN_TICKS, VERSIONS, Version)
 from shown import decoded
 from source import JUMPS, LOADS, NAME, OPERANDS, Source, Statement, number, read_statement, register
 
@@ -163,7 +163,7 @@ def event_advice(why: str, line: str) -> str:
     if why == "Range":
         limit = {"packet": f"a packet has 1 to {MOST_PACKET_SIZE:,} bytes", "line": f"the lines are 0 to {MOST_LINE}"}.get(
             words[1], f"so is a grace, an environment at most {MOST_TARGET}, and a count of pages at most {MOST_ASKED:,}")
-        return f"A time is at most {MOST_TICKS:,}, and {limit}. Numbers are decimal or begin with `0x`."
+        return f"A time is at most {MOST_RUN_TICKS:,}, and {limit}. Numbers are decimal or begin with `0x`."
     if why == "Order":
         return "Events stand in the order of their times."
     return ""

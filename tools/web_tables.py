@@ -22,7 +22,7 @@ LINT, TRY = tool("lint"), tool("try")
 def of_limits() -> Dict[str, Any]:
     """The numbers that the page says or keeps to."""
     return {
-        "pageSize": limits.PAGE_SIZE, "ticks": limits.MOST_TICKS, "traced": limits.MOST_TRACED_TICKS, "environments": limits.MOST_ENVIRONMENTS,
+        "pageSize": limits.PAGE_SIZE, "ticks": limits.MOST_RUN_TICKS, "traced": limits.MOST_TRACED_TICKS, "environments": limits.MOST_ENVIRONMENTS,
         "leastQuantum": limits.LEAST_QUANTUM, "mostQuantum": limits.MOST_QUANTUM, "stackPages": limits.MOST_STACK_PAGES,
         "leastPages": limits.LEAST_PAGES, "mostPages": refusals.MOST_PAGES, "mappings": limits.MOST_MAPPINGS, "packet": limits.MOST_PACKET_SIZE,
         "line": limits.MOST_LINE, "target": limits.MOST_TARGET, "asked": limits.MOST_ASKED,

@@ -14,7 +14,7 @@ import report
 import wire
 from assembler import assemble, listed
 from files import Fault, image_of, read_elf, read_image, read_manifest
-from limits import (LEAST_QUANTUM, MOST_COMPARED_SLICES, MOST_DELAY, MOST_MACHINES, MOST_QUANTUM, MOST_TARGET, MOST_TICKS, MOST_TRACED_TICKS,
+from limits import (LEAST_QUANTUM, MOST_COMPARED_SLICES, MOST_DELAY, MOST_MACHINES, MOST_QUANTUM, MOST_TARGET, MOST_RUN_TICKS, MOST_TRACED_TICKS,
                     MOST_WIRE_TICKS)
 from tlb import tlb_answer
 from trace import Traces
@@ -25,7 +25,7 @@ Files = Dict[str, bytes]
 Answer = Tuple[int, bytes]  # a status, and what is written
 FILE = None  # of a form: a word that names a file
 # By command, its words: the name of a file, or the least and the greatest number.
-TICKS = (0, MOST_TICKS)
+TICKS = (0, MOST_RUN_TICKS)
 FORMS: Dict[str, Tuple] = {
     "run": (FILE, FILE, TICKS), "tlb": (FILE, FILE, TICKS), "trace": (FILE, FILE, (0, MOST_TRACED_TICKS), (0, MOST_TARGET)), "asm": (FILE,),
     "image": (FILE,), "list": (FILE,), "load": ((0, 2**32 - 1),), "bare": (FILE, TICKS, TICKS), "audit": (FILE, (LEAST_QUANTUM, MOST_QUANTUM)),

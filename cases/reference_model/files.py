@@ -12,7 +12,7 @@ sys.path += [f"{ROOT}/tools", f"{ROOT}/cases"]
 import binary
 from binary import EMPTY, MAGIC
 from limits import (LEAST_PAGES, LEAST_QUANTUM, MOST_ASKED, MOST_EVENTS, MOST_LINE, MOST_MAPPINGS, MOST_PACKET_SIZE as MOST_PACKET, MOST_QUANTUM,
-                    MOST_SLOTS, MOST_STACK_PAGES as MOST_STACK, MOST_TARGET, MOST_TICKS, PAGE_SIZE as PAGE, VERSIONS)
+                    MOST_SLOTS, MOST_STACK_PAGES as MOST_STACK, MOST_TARGET, MOST_RUN_TICKS, PAGE_SIZE as PAGE, VERSIONS)
 
 LEAST_ADDRESS, END_OF_ADDRESSES, END_OF_STACK = 0x2000, 0x7FF00000, 0x7FFF0000
 CONTEXT_VPN, WORD = 1, 0xFFFFFFFF
@@ -317,11 +317,11 @@ def read_event(line: int, words: List[bytes]) -> Event:
 
     if len(words) < 2 or WORDS_OF.get(words[1]) != len(words):
         raise Fault("Syntax", line)
-    tick = ranged(words[0], MOST_TICKS)
+    tick = ranged(words[0], MOST_RUN_TICKS)
     if words[1] == b"line":
         return Event(tick, line=ranged(words[2], MOST_LINE))
     if words[1] == b"revoke":
-        return Event(tick, revoke=tuple(ranged(word, most) for word, most in zip(words[2:], (MOST_TARGET, MOST_ASKED, MOST_TICKS))))
+        return Event(tick, revoke=tuple(ranged(word, most) for word, most in zip(words[2:], (MOST_TARGET, MOST_ASKED, MOST_RUN_TICKS))))
     if len(words[2]) % 2 or any(digit not in b"0123456789abcdefABCDEF" for digit in words[2]):
         raise Fault("Hex", line)
     packet = bytes.fromhex(words[2].decode())

@@ -12,7 +12,7 @@ from hashlib import sha256
 from typing import List, NamedTuple, Optional, Sequence, Set, Tuple, Union
 
 from board import Board, Item
-from files import MOST_TICKS, Event, Fault, Image, read_image, read_schedule
+from files import MOST_RUN_TICKS, Event, Fault, Image, read_image, read_schedule
 from report import DONE, REFUSED, env_lines
 from ticks import happen_now, tick
 
@@ -56,7 +56,7 @@ class Side:
 
     def reach(self, number: int, slices: int) -> Side:
         """Goes on until so many slices of an environment have ended, if they do. The dead, and who isn't there, have no more."""
-        while self.slices(number) < slices and self.board.time < MOST_TICKS and not self.board.is_idle() and self.lives(number):
+        while self.slices(number) < slices and self.board.time < MOST_RUN_TICKS and not self.board.is_idle() and self.lives(number):
             self.tick()
         return self
 

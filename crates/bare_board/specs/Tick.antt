@@ -8,7 +8,8 @@ use Rattle.r3k_cp0.specs.declared.registers.Cp0.{Cp0}
 use Rattle.r3k_cp0.specs.Registers.{is_user, takes_interrupts}
 use Rattle.r3k_machine.specs.declared.machine.MachineEnd.{MachineEnd}
 use Rattle.r3k_machine.specs.declared.machine.MachineEnd.TheVariants as ends
-use Rattle.r3k_machine.specs.Exceptions.{going_on_at, in_exception, interrupted}
+use Rattle.mips_exec.specs.Cpu.{going_on_at}
+use Rattle.r3k_machine.specs.Exceptions.{in_exception, interrupted}
 use Rattle.r3k_machine.specs.Machine.{blank_machine, end_of}
 use Rattle.r3k_machine.specs.System.{MachineStep, machine_step, with_random_fallen}
 use Rattle.bare_board.specs.declared.board.Board.{Board}
