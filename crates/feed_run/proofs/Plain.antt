@@ -4,6 +4,7 @@ use Rattle.std.specs.List.{list_any}
 use Rattle.std.specs.Prelude.{◌||◌, ◌&&◌, not, if◌then◌else◌}
 use Rattle.std.proofs.lemmas.Bool.{eq-eqb, ne_eqb}
 use Rattle.std.proofs.lemmas.List.{append-nil, append_assoc, replicate-append-replicate}
+use Rattle.aegis_limits.specs.Limits.{most_run_ticks}
 use Rattle.world_model.specs.declared.slot.Runner.{Runner}
 use Rattle.world_model.specs.Book.{is_runner, running}
 use Rattle.world_model.specs.Item.{Item, Step}
@@ -59,6 +60,7 @@ pub record ArePlainTicks (p : BoardRun) (d : Course) (k r : ℕ) : Type 0 where
   pub runs : running (world_of p.course.board).book.runner ≡ Some r
   pub on : IsOn d
   pub time : d.board.time ≡ p.course.board.time + k
+  pub within : d.board.time ≤ most_run_ticks
   pub system : system_of d ≡ system_of p.course
   pub quiet : IsQuiet (system_of p.course).schedule p.course.board.time (p.course.board.time + k)
   pub steady : AreSteady p.course.board (system_of p.course).schedule k
@@ -132,6 +134,7 @@ module _ (times : TimeIsTick) (further : WorldsGoOn) (p : BoardRun) (d : Course)
         record {
           whole = record {
             on = ticks.on;
+            within = ticks.within;
             unread = unread_on (feed system e t) (given k) (feed (system_of d) e d.board.time) p.log new feed_to told now.unread;
             empty = now.empty;
             slices = now.slices ∙ sym (slices_at k (omega arith)) ∙ (λ i. slices (sym ticks.system i) e (sym time i));
@@ -139,7 +142,7 @@ module _ (times : TimeIsTick) (further : WorldsGoOn) (p : BoardRun) (d : Course)
           went = record {
             same = λ i. record (progress_of p) { system = ticks.system i; ticks = d.board.time; read = read i };
             later = omega (arith, time);
-            within = ticks.on.board.within;
+            within = ticks.within;
             unended = λ s from until.
                 let i = s - t in
                 let is : t + i ≡ s = omega (arith, from) in

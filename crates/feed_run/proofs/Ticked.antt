@@ -2,7 +2,7 @@
 use Rattle.std.proofs.Common.{◌≡◌, ◌≤◌, ◌<◌, ◌+◌, ℕ, zero, suc, List, [], ◌++◌, Bool, true, false, None, refl, sym, ◌∙◌, ap, subst, arith}
 use Rattle.std.specs.Prelude.{◌||◌, ◌&&◌, not, if◌then◌else◌}
 use Rattle.std.specs.List.{list_any}
-use Rattle.aegis_limits.specs.Limits.{most_ticks}
+use Rattle.aegis_limits.specs.Limits.{most_run_ticks}
 use Rattle.external_event.specs.declared.event.Occurrence.{Occurrence}
 use Rattle.world_model.specs.Book.{is_idle_book, is_runner}
 use Rattle.world_model.specs.Event.{Schedule}
@@ -62,7 +62,7 @@ slices_few system e (suc t) = let one = one_at_most (ends_in system e t) in omeg
 pub record HasTicked (p : BoardRun) (c : Course) (d : Shown) (happens : List Occurrence) (tick : List ItemSeen) : Type 0 where
   pub now : IsWholeRun p
   pub busy : is_idle_book (world_of p.course.board).book ≡ false
-  pub early : p.course.board.time < most_ticks
+  pub early : p.course.board.time < most_run_ticks
   pub these : happens ≡ happens_in (system_of p.course).schedule (world_of p.course.board)
   pub coming : AreComing p.course.events.now (p.course.board.time + 1) c.agenda
   pub same : c ≡ record p.course { agenda = c.agenda; entry = None }
@@ -140,6 +140,7 @@ module _ (p : BoardRun) (c : Course) (d : Shown) (happens : List Occurrence) (ti
     whole_left : IsWholeRun (behind p left d new count)
     whole_left = record {
       on = on;
+      within = let early = made.early in omega (arith, next_time, early);
       unread = unread_on (feed system e b.time) items (feed system e d.time) p.log new feed_on told_on made.now.unread;
       empty = refl;
       slices = counts

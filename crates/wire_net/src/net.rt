@@ -2,7 +2,7 @@
 //! something may happen in it from outside.
 ghost use Rattle.std.specs.Prelude.{◌≡◌, ℕ, Vec, ◌≤◌, ◌<◌, ◌++◌, IfOk, OnOk, OnErr, length, get_or, true};
 ghost use Rattle.std.specs.Global.{Global};
-ghost use Rattle.aegis_limits.specs.Limits.{most_ticks};
+ghost use Rattle.aegis_limits.specs.Limits.{most_run_ticks, most_ticks};
 ghost use Rattle.board_model.specs.Shown.{Shown};
 ghost use Rattle.board_model.specs.Ticks.{IsFresh};
 ghost use Rattle.external_event.specs.EventValue.{EventValue};
@@ -90,7 +90,7 @@ fn tick_one(
     out: &mut Vec<Delivery>,
 ) -> Result<(), OutOfMemory>
     requires limit { moment.time < most_ticks }
-    requires arrival { moment.arrival ≤ most_ticks }
+    requires arrival { moment.arrival ≤ most_run_ticks }
     requires until { moment.until ≤ most_ticks }
     requires later { moment.time ≤ station.old.time }
     requires here { IsAt station.old board.old }
@@ -125,7 +125,7 @@ fn tick_all(
     requires count { length boards.old ≤ most_machines }
     requires stations { length stations.old ≡ length boards.old }
     requires limit { moment.time < most_ticks }
-    requires arrival { moment.arrival ≤ most_ticks }
+    requires arrival { moment.arrival ≤ most_run_ticks }
     requires until { moment.until ≤ most_ticks }
     requires later { NoneBefore moment.time stations.old }
     requires here { AreAt stations.old boards.old }

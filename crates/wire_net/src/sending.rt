@@ -1,6 +1,6 @@
 //! What a machine puts on the wire.
 ghost use Rattle.std.specs.Prelude.{◌≡◌, ◌≤◌, ◌<◌, ◌++◌, ◌∷◌, [], OnOk, length, get_or};
-ghost use Rattle.aegis_limits.specs.Limits.{most_ticks};
+ghost use Rattle.aegis_limits.specs.Limits.{most_run_ticks};
 ghost use Rattle.board_model.specs.Showing.{world_of};
 ghost use Rattle.wire_net.specs.Sending.{all_sent_after, packets_sent, sent_after};
 ghost use Rattle.wire_net.specs.Station.{AreCounted};
@@ -17,7 +17,7 @@ use world_model::WorldView;
 pub(crate) struct Route {
     /// The number of the machine that sends.
     pub sender: u8,
-    /// When what it sends arrives, at most `MOST_TICKS`.
+    /// When what it sends arrives, at most `MOST_RUN_TICKS`.
     pub time: u32,
 }
 
@@ -28,7 +28,7 @@ fn send(
     route: Route,
     bytes: &[u8],
 ) -> Result<(), OutOfMemory>
-    requires { route.time ≤ most_ticks }
+    requires { route.time ≤ most_run_ticks }
     ensures { OnOk result (out.new.items ≡ out.old.items ++ packets_sent route (bytes.now ∷ [])) }
 {
     let bytes = Vec::from_slice(alloc, bytes)?;
@@ -66,7 +66,7 @@ fn send_behind(
     env: u8,
     known: usize,
 ) -> Result<(), OutOfMemory>
-    requires time { route.time ≤ most_ticks }
+    requires time { route.time ≤ most_run_ticks }
     requires env { env < (world_of board.now).count }
     ensures { OnOk result (out.new.items ≡ out.old.items ++ packets_sent route (sent_after board.now env known)) }
 {
@@ -84,7 +84,7 @@ pub(crate) fn send_new(
     board: &Board,
     known: &mut [usize],
 ) -> Result<(), OutOfMemory>
-    requires time { route.time ≤ most_ticks }
+    requires time { route.time ≤ most_run_ticks }
     requires envs { length known.old ≡ (world_of board.now).count }
     ensures sent { OnOk result (out.new.items ≡ out.old.items ++ packets_sent route (all_sent_after board.now known.old)) }
     ensures counted { OnOk result (AreCounted board.now known.new) }

@@ -1,5 +1,5 @@
 -- The ticks of the stretch are steps of the environment, which are told, or give it nothing.
-use Rattle.std.proofs.Common.{◌∙◌, sym}
+use Rattle.std.proofs.Common.{◌∙◌, sym, arith}
 use Rattle.board_model.specs.Showing.{world_of}
 use Rattle.feed_run.specs.Reach.{IsOutOfReach}
 use Rattle.feed_run.proofs.Plain.{HasGone, behind, others_gone, own_gone}
@@ -10,7 +10,7 @@ own : (c : goal.In_ok-push_steps) → HasGone c.args.self.now (behind c.args.sel
 own c =
     let glided = c.glide-steps.ensures in
     own_gone c.law_time.ensures c.law_further.ensures.worlds c.args.self.now c.glide-steps.new.self c.glide-steps.result c.in-Some.runner c.requires
-    (record { runs = sym c.runner.ensures ∙ c.in-Some.is; on = glided.on; time = glided.time; system = glided.system; quiet = glided.quiet; steady = glided.steady })
+    (record { runs = sym c.runner.ensures ∙ c.in-Some.is; on = glided.on; time = glided.time; within = omega (arith, glided.time, glided.most, c.time-most.ensures, c.requires.within); system = glided.system; quiet = glided.quiet; steady = glided.steady })
     c.if-is_own.true c.push_steps.new.self (c.in_ok-push_steps.ensures).log
 
 pub returns-in_ok-push_steps-clause-went : goal.returns-in_ok-push_steps-clause-went
@@ -30,7 +30,7 @@ others : (c : goal.Else-is_own) → HasGone c.args.self.now (behind c.args.self.
 others c =
     let glided = c.glide-steps.ensures in
     others_gone c.law_time.ensures c.law_further.ensures.worlds c.args.self.now c.glide-steps.new.self c.glide-steps.result c.in-Some.runner c.requires
-    (record { runs = sym c.runner.ensures ∙ c.in-Some.is; on = glided.on; time = glided.time; system = glided.system; quiet = glided.quiet; steady = glided.steady })
+    (record { runs = sym c.runner.ensures ∙ c.in-Some.is; on = glided.on; time = glided.time; within = omega (arith, glided.time, glided.most, c.time-most.ensures, c.requires.within); system = glided.system; quiet = glided.quiet; steady = glided.steady })
     c.law_through.ensures (λ same. c.if-is_own.false (sym same)) (out_of_reach c)
 
 pub returns-else-is_own-clause-went : goal.returns-else-is_own-clause-went
