@@ -78,6 +78,28 @@ later quantum excess phase.Grace = (excess_limit - excess) * quantum
 abbrev most_left : ℕ → Alone → ℕ
 most_left quantum a = a.left + later quantum a.excess a.phase
 
+-- of numbers alone
+less_one : (n : ℕ) → 0 < n → (m : ℕ) → suc (n - 1 + m) ≡ n + m
+less_one n some m = omega (arith, some)
+
+before_some : (n : ℕ) → 0 < n → (m : ℕ) → n + m ≡ suc (n + m - 1)
+before_some n some m = omega (arith, some)
+
+is_some : (n : ℕ) → 0 < n → (n == 0) ≡ false
+is_some n some = ne_eqb n 0 (λ none. omega (arith, some, none))
+
+same_before : (m n k : ℕ) → suc m ≡ n → n ≡ suc k → k ≡ m
+same_before m n k one two = omega (arith, one, two)
+
+less_owed : (owes : ℕ) → owes + 1 ≤ excess_limit → excess_limit - owes ≡ suc (excess_limit - (owes + 1))
+less_owed owes most = omega (arith, most)
+
+pub ten_quanta : (q : ℕ) → (2 + excess_limit) * q ≡ q + (1 + excess_limit) * q
+ten_quanta q = omega arith
+
+later_falls : (q more : ℕ) → suc (q + more * q) ≡ 1 + suc more * q
+later_falls q more = omega arith
+
 -- a slice played to its end
 abbrev pub to_end : ℕ → Alone → Alone
 to_end quantum a = ticks_alone quantum (most_left quantum a) a
@@ -92,17 +114,11 @@ end_over q a none = over_ends q (most_left q a) a none
 pub over_counts : (q : ℕ) (a : Alone) → a.left ≡ 0 → count_alone q a ≡ a
 over_counts q a none =
     ap (λ (left : ℕ). after_timer q (if left == 1 then timer_at_end a.phase (not (a.solo.handlers.end == 0)) a.excess else timer.Nothing) a) none
-    ∙ same_alone (record a { left = a.left - 1 }) a refl refl (omega (arith, none)) refl refl
+    ∙ same_alone (record a { left = a.left - 1 }) a refl refl (ap (λ (left : ℕ). left - 1) none ∙ sym none) refl refl
 
 -- Each tick is one of those that are left, or the last one.
 abbrev Falls : ℕ → Alone → Alone → Type 0
 Falls q a b = (b.left ≡ 0) ⊎ (suc (most_left q b) ≡ most_left q a)
-
-pub ten_quanta : (q : ℕ) → (2 + excess_limit) * q ≡ q + (1 + excess_limit) * q
-ten_quanta q = omega arith
-
-later_falls : (q more : ℕ) → suc (q + more * q) ≡ 1 + suc more * q
-later_falls q more = omega arith
 
 -- at the end of a quantum,
 module _ (q : ℕ) (a : Alone) (last : a.left ≡ 1) where
@@ -117,8 +133,7 @@ module _ (q : ℕ) (a : Alone) (last : a.left ≡ 1) where
       by_excess true full = inl refl
       by_excess false few =
           let more = excess_limit - (a.excess + 1) in
-          let split : excess_limit - a.excess ≡ suc more = omega (arith, ltb-false excess_limit (a.excess + 1) few) in
-          inr (later_falls q more ∙ ap (λ (n : ℕ). 1 + n * q) (sym split)
+          inr (later_falls q more ∙ ap (λ (n : ℕ). 1 + n * q) (sym (less_owed a.excess (ltb-false excess_limit (a.excess + 1) few)))
           ∙ ap (λ (n : ℕ). n + (excess_limit - a.excess) * q) (sym last) ∙ ap (λ (p : Phase). a.left + later q a.excess p) (sym is))
 
 -- and at each tick of a slice:
@@ -130,7 +145,7 @@ count_falls q a some owes = by_left (a.left == 1) refl
 
     by_left : (one : Bool) → (a.left == 1) ≡ one → Falls q a (after_timer q (if one then timer_at_end a.phase has_end a.excess else timer.Nothing) a)
     by_left true one = end_falls q a (eqb-true a.left 1 one) a.phase has_end refl owes
-    by_left false more = inr (omega (arith, some))
+    by_left false more = inr (less_one a.left some (later q a.excess a.phase))
 
 -- its act ends the slice, or leaves what is left of it
 data Leaves (a b : Alone) : Type 0 where
@@ -147,40 +162,31 @@ act_leaves (Calls call) a = answer_leaves (verdict_alone a.solo call) a
 act_leaves (Dies cause) a = Ends refl
 act_leaves act a = Lasts refl refl refl
 
-tick_falls : (q : ℕ) (a : Alone) → 0 < a.left → OwesWithin a.excess a.phase → Falls q a (tick_alone q a)
-tick_falls q a some owes = by_act (act_leaves act (with_item Step a))
+act_falls : (q : ℕ) (act : Act) (a : Alone) → 0 < a.left → OwesWithin a.excess a.phase → Falls q a (count_alone q (after_act act a))
+act_falls q act a some owes = by_act (after_act act a) (act_leaves act a)
   where
-    act : Act
-    act = act_of a.solo (step_alone a.solo)
-
-    b : Alone
-    b = after_act act (with_item Step a)
-
-    by_act : Leaves (with_item Step a) b → Falls q a (count_alone q b)
-    by_act (Ends none) = inl (ap (λ (c : Alone). c.left) (over_counts q b none) ∙ none)
-    by_act (Lasts left phase excess) =
+    by_act : (b : Alone) → Leaves a b → Falls q a (count_alone q b)
+    by_act b (Ends none) = inl (ap (λ (c : Alone). c.left) (over_counts q b none) ∙ none)
+    by_act b (Lasts left phase excess) =
         let same : most_left q b ≡ most_left q a =
         ap (λ (n : ℕ). n + later q b.excess b.phase) left ∙ ap (λ (n : ℕ). a.left + later q n b.phase) excess ∙ ap (λ (p : Phase). a.left + later q a.excess p) phase in
         let owes_it : OwesWithin b.excess b.phase = subst (λ (p : Phase). OwesWithin b.excess p) (sym phase) (subst (λ (n : ℕ). OwesWithin n a.phase) (sym excess) owes) in
         let c = count_alone q b in
         subst (λ (n : ℕ). (c.left ≡ 0) ⊎ (suc (most_left q c) ≡ n)) same (count_falls q b (subst (λ (n : ℕ). 0 < n) (sym left) some) owes_it)
 
+tick_falls : (q : ℕ) (a : Alone) → 0 < a.left → OwesWithin a.excess a.phase → Falls q a (tick_alone q a)
+unfolding tick_alone
+tick_falls q a some owes = act_falls q (act_of a.solo (step_alone a.solo)) (with_item Step a) some owes
+
 -- So a tick of it is the first of those to its end.
+falls_to_end : (q m : ℕ) (a b : Alone) → most_left q a ≡ suc m → Falls q a b → ticks_alone q m b ≡ to_end q b
+falls_to_end q m a b is (inl none) = over_ends q m b none ∙ sym (end_over q b none)
+falls_to_end q m a b is (inr falls) = ap (λ (n : ℕ). ticks_alone q n b) (same_before (most_left q b) (most_left q a) m falls is)
+
 pub tick_to_end : (q : ℕ) (a : Alone) → 0 < a.left → OwesWithin a.excess a.phase → to_end q a ≡ to_end q (tick_alone q a)
 tick_to_end q a some owes =
-    first ∙ elim (tick_falls q a some owes) [
-      | inl none ↦ over_ends q m t none ∙ sym (over_ends q (most_left q t) t none)
-      | inr falls ↦ ap (λ (n : ℕ). ticks_alone q n t) (omega (arith, falls, is))
-    ]
-  where
-    t : Alone
-    t = tick_alone q a
-
-    m : ℕ
-    m = most_left q a - 1
-
-    is : most_left q a ≡ suc m
-    is = omega (arith, some)
-
-    first : to_end q a ≡ ticks_alone q m t
-    first = ap (λ (n : ℕ). ticks_alone q n a) is ∙ ap (λ (none : Bool). if none then a else ticks_alone q m t) (ne_eqb a.left 0 (λ none. omega (arith, some, none)))
+    let m = most_left q a - 1 in
+    let is : most_left q a ≡ suc m = before_some a.left some (later q a.excess a.phase) in
+    ap (λ (n : ℕ). ticks_alone q n a) is
+    ∙ ap (λ (none : Bool). if none then a else ticks_alone q m (tick_alone q a)) (is_some a.left some)
+    ∙ falls_to_end q m a (tick_alone q a) is (tick_falls q a some owes)

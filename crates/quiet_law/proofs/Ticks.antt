@@ -96,6 +96,7 @@ module _ (granted : GrantedMay) (again : AgainAsks) (rich : RichestHasMost) (e :
     times = own_times e u steps.clear steps.nothing (subst (λ n. 0 < n) (sym steps.quantum) some) u.book.runner refl runs_still
 
     ticked : (xs : List Item) → tick_alone q (alone_in e w xs) ≡ alone_in e v (xs ++ given)
+    unfolding tick_alone
     ticked xs =
         let ys = (step w).items e in
         let zs = (timer u).items e in

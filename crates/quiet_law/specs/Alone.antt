@@ -67,7 +67,7 @@ count_alone quantum a =
     after_timer quantum (timer_of (record { env = a.solo.number; left = a.left; phase = a.phase }) has_end a.excess) a
 
 -- one tick: a step, what it comes to, and the timer
-abbrev pub tick_alone : ℕ → Alone → Alone
+unfoldable pub tick_alone : ℕ → Alone → Alone
 tick_alone quantum a = count_alone quantum (after_act (act_of a.solo (step_alone a.solo)) (with_item Step a))
 
 -- the ticks of a slice to its end, but no more than this number
