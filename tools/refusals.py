@@ -255,7 +255,7 @@ def of_the_line(said: Statement) -> Optional[str]:
             return f"A value isn't repeated by `:`: for {repeated[3]} zeros write `.space {size * int(repeated[3])}`."
         return f"A value isn't repeated by `:`: write `{repeated[1]}` with {repeated[3]} values, with commas between them."
     if re.match(rf"\s*{NAME}[ \t]+:", bare):
-        return "The colon stands directly behind the label."
+        return "The colon stands directly after the label."
     if re.match(r"\s*[0-9]\w*:", bare):
         return "A label begins with a letter, `_` or `.`."
     if re.match(rf"\s*{NAME}:\s*{NAME}:", bare):
@@ -417,7 +417,7 @@ def unaligned(_source: Source, said: Statement) -> Optional[str]:
     """What doesn't stand at a multiple of its size."""
     if said.operation in (".word", ".half"):
         power = 2 if said.operation == ".word" else 1
-        return f"Write `.align {power}` in a line above, and the label behind it."
+        return f"Write `.align {power}` in a line above, and the label after it."
     if said.operation in JUMPS or said.operation.startswith("b"):
         return "The target isn't the address of an instruction, which is a multiple of 4."
     return "Text or bytes stand before it: write `.align 2` above, or put them into `.data`."

@@ -122,7 +122,7 @@ function repeated(bare) {
 
 /** A label, or a constant, of another form. */
 function labelled(bare) {
-  if (new RegExp(`^\\s*${NAME}[ \\t]+:`).test(bare)) return "The colon stands directly behind the label.";
+  if (new RegExp(`^\\s*${NAME}[ \\t]+:`).test(bare)) return "The colon stands directly after the label.";
   if (/^\s*[0-9]\w*:/.test(bare)) return "A label begins with a letter, `_` or `.`.";
   if (new RegExp(`^\\s*${NAME}:\\s*${NAME}:`).test(bare)) return "A line has one label: give the second a line of its own.";
   const equal = new RegExp(`^\\s*(${NAME})\\s*=\\s*(\\S+)`).exec(bare);
@@ -168,7 +168,7 @@ function undefinedName(source, said) {
 /** What doesn't stand at a multiple of its size. */
 function unaligned(_source, said) {
   const name = said.operation;
-  if (name === ".word" || name === ".half") return `Write \`.align ${name === ".word" ? 2 : 1}\` in a line above, and the label behind it.`;
+  if (name === ".word" || name === ".half") return `Write \`.align ${name === ".word" ? 2 : 1}\` in a line above, and the label after it.`;
   if (tables.jumps.includes(name) || name.startsWith("b")) return "The target isn't the address of an instruction, which is a multiple of 4.";
   return "Text or bytes stand before it: write `.align 2` above, or put them into `.data`.";
 }
