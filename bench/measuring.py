@@ -14,6 +14,7 @@ from typing import Callable, List, Sequence, Tuple
 ROOT = os.path.dirname(os.path.dirname(os.path.realpath(__file__)))
 sys.path[:0] = [f"{ROOT}/cases", f"{ROOT}/tools"]
 sys.dont_write_bytecode = True
+from matching import matched
 
 Command = Sequence[str]
 
@@ -27,7 +28,7 @@ def written(folder: str, name: str, content: bytes, mode: int = 0o600) -> str:
     return path
 
 
-def run(command: Command, ends: Sequence[int] = (0,)) -> subprocess.CompletedProcess:
+def run(command: Command, ends: Sequence[int] = (0,)) -> subprocess.CompletedProcess[str]:
     """Runs a command, whose output goes nowhere; it has to end with one of these statuses."""
     ran = subprocess.run(command, stdout=subprocess.DEVNULL, stderr=subprocess.PIPE, text=True)
     if ran.returncode not in ends:
@@ -64,7 +65,7 @@ def peak(command: Command, ends: Sequence[int] = (0,)) -> str:
 def instructions(command: Command, ends: Sequence[int] = (0,)) -> int:
     """The host's instructions, by valgrind, which no load changes."""
     ran = run(("valgrind", "--tool=callgrind", "--callgrind-out-file=/dev/null", *command), ends)
-    return int(re.search(r"Collected : (\d+)", ran.stderr)[1])
+    return int(matched(r"Collected : (\d+)", ran.stderr)[1])
 
 
 def has(tool: str, package: str, what: str) -> bool:

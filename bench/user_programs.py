@@ -7,8 +7,7 @@ from __future__ import annotations
 
 import random
 import struct
-from collections import namedtuple
-from typing import Callable, Collection, Dict, List, Optional, Sequence, Tuple, Union
+from typing import Callable, Collection, Dict, List, NamedTuple, Optional, Sequence, Set, Tuple, Union
 
 import measuring  # which has the cases' folder on the path
 from binary import addi, addiu, immediate, lui, ori, register
@@ -73,7 +72,17 @@ def name_of(word: int) -> Optional[str]:
 
 # `start` is the first instruction's address, `begin` that of the first one behind the loads of all registers; `names` are
 # those of the instructions.
-Program = namedtuple("Program", "code data fixed start begin end raised names")
+class Program(NamedTuple):
+    """A program, where it starts, where its random part begins and ends, the exception that it raises if any, and the names of its words."""
+
+    code: bytes
+    data: bytes
+    fixed: bytes
+    start: int
+    begin: int
+    end: int
+    raised: Optional[str]
+    names: Set[Optional[str]]
 SPECIAL = (0, 1, 2, 3, 4, 31, 32, 0x7F, 0x80, 0xFF, 0x7FFF, 0x8000, 0xFFFF, 0x7FFFFFFF, 0x80000000, 0x80000001, 0xFFFF8000,
            0xFFFFFFFE, 0xFFFFFFFF)
 # Words of 64 bits' instructions, which no MIPS of 32 bits has, and words of coprocessors.
@@ -294,7 +303,8 @@ class Maker:
         def address() -> int:
             """The place to store over: the one behind the store, or one that isn't far; or in the data, if there is none."""
             places = [place for place in self.singles if here - 40 < place < here + 60 and is_whole == place % 2]
-            places = [place for place in places if is_whole or self.words[place] >> 26 in range(9, 16)]
+            found = [(place, self.words[place]) for place in places]
+            places = [place for place, word in found if is_whole or isinstance(word, int) and word >> 26 in range(9, 16)]
             behind = [place for place in places if place == here + 4 + len(stores)]
             places = behind if is_near and behind else places
             return CODE + 4 * (self.offset + places[pick % len(places)]) if places else DATA
@@ -306,17 +316,18 @@ class Maker:
 
     def put_raised(self) -> None:
         """The words of an exception, the last of which raises it, by itself or in a delay slot."""
-        words = self.RAISED[self.raised](self)
+        words = self.RAISED[self.raised or ""](self)
         if words[-1] >> 26 == 0 and words[-1] & 63 in JUMPS_BY.values():
             self.put(*words, self.single())
         elif self.chance.random() < 0.4:
             self.put(*words[:-1])
             place = len(self.words)
-            self.put(self.chance.choice((
+            branches: Tuple[Union[int, Callable[[], int]], ...] = (
                 immediate(self.number_of(BRANCHES), self.source(), 0, 1),
                 immediate(1, self.source(but=31), self.number_of(SIGN_BRANCHES), 1),
                 lambda: JUMPS["jal"] << 26 | CODE + 4 * (self.offset + place + 2) >> 2,
-            )), words[-1])
+            )
+            self.put(self.chance.choice(branches), words[-1])
         else:
             self.put(*words)
 
@@ -406,8 +417,9 @@ class Maker:
         for name, value in self.values.items():
             values[name + 1] = value
         fixed = struct.pack("<33I", *values) + self.chance.randbytes(PAGE - 132)
-        places = (CODE + 4 * (self.offset + place) for place in (0, begin, end))
-        return Program(bytes(code), self.chance.randbytes(DATA_END - DATA), fixed, *places, self.raised, {name_of(word) for word in words} - {None})
+        first, random_begin, random_end = (CODE + 4 * (self.offset + place) for place in (0, begin, end))
+        return Program(bytes(code), self.chance.randbytes(DATA_END - DATA), fixed, first, random_begin, random_end, self.raised,
+                       {name_of(word) for word in words} - {None})
 
 
 def made(seed: int) -> Program:

@@ -21,7 +21,7 @@ import os
 import struct
 import subprocess
 import sys
-from typing import Iterator, List, Tuple
+from typing import Dict, Iterator, List, Tuple
 
 import binary
 
@@ -68,7 +68,10 @@ def body(aegis: str, path: str) -> bytes:
 
 def packed(aegis: str, manifest: str) -> bytes:
     """The bytes of the manifest's image."""
-    folder, fields, programs = os.path.dirname(manifest), {"version": 1}, []
+    folder = os.path.dirname(manifest)
+    fields: Dict[str, int] = {"version": 1}  # what the lines so far say, with how many slots there are
+    slots: List[int] = []
+    programs: List[binary.Program] = []
     for number, words in lines_of(manifest):
         wanted = "version" if len(fields) == 1 and words[0] == "version" else ("pages", "quantum", "slots", "env")[min(len(fields), 4) - 1]
         try:
@@ -82,14 +85,16 @@ def packed(aegis: str, manifest: str) -> bytes:
                 numbers = (int(base, 0), int(stack, 0), int(accept, 0), bool(("flat", "elf").index(kind)))
                 programs.append(binary.Program(name, code, *numbers))
             elif wanted == "slots":
-                fields[wanted] = bytes(255 if word == "-" else int(word, 0) for word in words[1:])
+                slots = list(bytes(255 if word == "-" else int(word, 0) for word in words[1:]))
+                fields[wanted] = len(slots)
             else:
-                fields[wanted] = int(*words[1:], 0)
+                value, = words[1:]
+                fields[wanted] = int(value, 0)
         except (ValueError, TypeError, IndexError, struct.error):
             raise Refused(f"{manifest}: line {number} isn't of the form of a manifest's '{wanted}' line") from None
     if not programs:
         raise Refused(f"{manifest}: it ends too early")
-    return binary.image(fields["pages"], fields["quantum"], fields["slots"], programs, fields["version"])
+    return binary.image(fields["pages"], fields["quantum"], slots, programs, fields["version"])
 
 
 def main() -> None:

@@ -27,6 +27,7 @@ sys.path.insert(0, TOOLS)
 import kernel_calls
 from built import program
 from instructions import access, is_jump, is_store
+from loading import loaded
 from packets import NO_WIRE, reports
 from recording import Row, read_trace
 from knowledge import FIRST_STACK, HI, LO, SP
@@ -260,7 +261,8 @@ class Net:
 
     def __init__(self, machines: Sequence[Machine], delay: int):
         self.files = [word for it in machines for word in (f"{it.room}/{it.image}", "/dev/null")]
-        self.delay, self.texts = delay, {}
+        self.delay = delay
+        self.texts: Dict[int, List[str]] = {}
         self.machines = [WiredMachine(self, at, it) for at, it in enumerate(machines)]
 
     def written(self, at: int, ticks: int) -> str:
@@ -348,11 +350,9 @@ class Lab:
 
     def warnings(self) -> List[str]:
         """What tools/lint warns of in the source."""
-        loader = importlib.machinery.SourceFileLoader("lint", f"{TOOLS}/lint")
-        lint = importlib.util.module_from_spec(importlib.util.spec_from_loader("lint", loader))
-        loader.exec_module(lint)
         with open(self.source, encoding="latin-1", newline="\n") as file:
-            return lint.shown_warnings(self.shown, read_source(file.read()))
+            found: List[str] = loaded(f"{TOOLS}/lint").shown_warnings(self.shown, read_source(file.read()))
+        return found
 
 
 def demand(holds: bool, sentence: str) -> None:
@@ -369,6 +369,11 @@ def marks(report: Report, kind: str) -> List[Mark]:
 def ended(report: Report, env: int) -> Optional[int]:
     """The tick in which an environment ended, if it did."""
     return next((mark.time for mark in report.marks if mark.kind in ("dead", "exit") and mark.env == env), None)
+
+
+def printed(env: Environment) -> str:
+    """What an environment printed, in a sentence."""
+    return repr(env.text().decode("utf-8", errors="backslashreplace"))
 
 
 def fate(report: Report, env: Environment) -> str:

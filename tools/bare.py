@@ -8,6 +8,7 @@ import struct
 from dataclasses import dataclass
 from typing import Dict, List, Tuple
 
+from matching import matched
 from shown import decoded
 from source import Source, TEXT
 
@@ -69,7 +70,7 @@ def read(said: str) -> Ended:
     how, time = lines["end"].split()
     _, _, _, _, bad, entry_hi, status, cause, epc = words(lines["cp0"])
     pc, _, _, hi, lo = words(lines["cpu"])
-    text = re.fullmatch(r'\d+ "(.*)"', lines["out"])
+    text = matched(r'^\d+ "(.*)"$', lines["out"])
     rows = [(row[1], row[2]) for row in (words(line[4:]) for line in texts if line.startswith("row "))]
     return Ended(how, int(time), unescaped(text[1]), pc, hi, lo, [0, *words(lines["regs"])], bad, entry_hi >> 6 & 63, status, cause >> 2 & 31, epc,
                  lines["ram"], rows)

@@ -68,7 +68,8 @@ def plain(file: bytes) -> Iterator[Captured]:
 
 def blocks(file: bytes) -> Iterator[Captured]:
     """Those of a file of pcapng."""
-    place, order, units = 0, "<", []  # units: by interface, how many parts a second has
+    place, order = 0, "<"
+    units: List[int] = []  # by interface, how many parts a second has
     while place < len(file):
         kind, size = struct.unpack_from(f"{order}2I", file, place)
         if kind == SECTION:
@@ -100,7 +101,7 @@ def resolution(options: bytes, order: str) -> int:
         code, size = struct.unpack_from(f"{order}2H", options, place)
         if code == RESOLUTION and size == 1:
             value = part(options, place + 4, 1)[0]
-            return 2 ** (value & 0x7F) if value & 0x80 else 10**value
+            return 1 << (value & 0x7F) if value & 0x80 else int(10**value)
         if code == 0:
             break
         place += 4 + size + -size % 4

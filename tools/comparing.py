@@ -23,7 +23,7 @@ PROBE = "probe.sch"
 class Difference(NamedTuple):
     """The first place in which two feeds differ, and the items there."""
 
-    index: int
+    place: int
     left: str
     right: str
 
@@ -40,6 +40,9 @@ class Side(NamedTuple):
 
     def schedule(self) -> str:
         return f"{self.folder}/try.sch"
+
+    def files(self) -> List[str]:
+        return [self.image(), self.schedule()]
 
 
 class Comparison:
@@ -62,14 +65,13 @@ class Comparison:
 
     def reached(self, side: Side, slices: int) -> int:
         """To how many slices the environment comes in a run, of so many."""
-        files = [side.image(), side.schedule()]
-        words = self.said(files, files, slices)[0].split()
+        words = self.said(side.files(), side.files(), slices)[0].split()
         return int(words[2]) if words[0] == "short" else slices
 
     def difference(self, slices: int) -> Optional[Difference]:
         """The first difference up to the end of a slice to which both come, if there is one."""
-        lines = self.said(*([it.image(), it.schedule()] for it in (self.left, self.right)), slices)
-        return Difference(int(lines[0].split()[1]), *lines[1:]) if lines[0].startswith("differ") else None
+        first, *items = self.said(self.left.files(), self.right.files(), slices)
+        return Difference(int(first.split()[1]), *items) if first.startswith("differ") else None
 
     def items_before(self, side: Side, tick: int, slices: int) -> Optional[int]:
         """How many items the environment is given before a tick; none behind its end or the end of the slice. In a run in which it
@@ -79,10 +81,10 @@ class Comparison:
         asked = f"{tick} revoke {self.env} 1 {MOST_RUN_TICKS}"
         lines = [line for at, line in events if at < tick] + [asked] + [line for at, line in events if at >= tick]
         write(f"{self.room}/{PROBE}", "".join(f"{line}\n" for line in lines).encode("latin-1"))
-        sides = [side.image(), side.schedule()], [side.image(), PROBE]
-        words = self.said(*sides, slices)[0].split()
+        asking = [side.image(), PROBE]
+        words = self.said(side.files(), asking, slices)[0].split()
         if words[0] == "short":  # it comes to fewer slices once it is asked, and is asked in one of these
-            words = self.said(*sides, int(words[2]))[0].split()
+            words = self.said(side.files(), asking, int(words[2]))[0].split()
         return int(words[1]) if words[0] == "differ" else None
 
     def tick_of(self, side: Side, index: int, slices: int) -> int:

@@ -8,6 +8,8 @@ import re
 from dataclasses import dataclass, field
 from typing import Dict, Iterator, List, Optional, Set, Tuple
 
+from matching import matched
+
 ROOT = os.path.dirname(os.path.dirname(os.path.realpath(__file__)))
 FN = re.compile(r"^\s*(pub(?:\(\w+\))? )?(?:const )?fn (\w+)")
 HOLDER = re.compile(r"^(pub )?(impl|trait)\b(?:<[^{]*?>)? ?(.*)$")
@@ -92,12 +94,12 @@ def braced(lines: List[str], at: int, start: int) -> Tuple[str, int]:
 
 
 def type_name(text: str) -> str:
-    return re.match(r"\W*(\w*)", text)[1]
+    return matched(r"\W*(\w*)", text)[1]
 
 
 def holder_of(line: str) -> Tuple[str, str]:
     """The type and the trait of a block whose first line this is."""
-    found = HOLDER.match(line)
+    found = matched(HOLDER, line)
     rest = found[3]
     if found[2] == "trait":
         return type_name(rest), type_name(rest)
@@ -133,8 +135,7 @@ def source(crate: str, path: str) -> Source:
         elif INVARIANT.match(line):
             text, at = braced(lines, at, line.index("{") + 1)
             found.invariants.append((of_type, at + 1, text))
-        elif FN.match(line):
-            mark = FN.match(line)
+        elif mark := FN.match(line):
             it = Function(crate, path, at + 1, mark[2], in_trait or (mark[1] or "").strip() == "pub", of_type, trait, said(lines, at, "///"))
             at = contract(lines, at, it)
             found.functions.append(it)

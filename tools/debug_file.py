@@ -121,7 +121,7 @@ def debug_file(elf: bytes, source: Source, path: str) -> bytes:
         table_of += struct.pack("<10I", label, it.kind, it.flags, it.address, place + len(body), len(it.content), it.link, it.info, 1, it.entry)
         label += len(it.name) + 1
         body += it.content
-    head = b"\x7fELF\1\1\1" + bytes(9) + struct.pack("<HHIIIIIHHHHHH", 2, 8, 1, struct.unpack_from("<I", elf, 24)[0], HEADER, place + len(body), O32,
-                                                     HEADER, 32, count, SECTION_HEADER, len(parts), len(parts) - 1)
+    header = b"\x7fELF\1\1\1" + bytes(9) + struct.pack("<HHIIIIIHHHHHH", 2, 8, 1, struct.unpack_from("<I", elf, 24)[0], HEADER, place + len(body), O32,
+                                                       HEADER, 32, count, SECTION_HEADER, len(parts), len(parts) - 1)
     segments = b"".join(struct.pack("<8I", 1, offsets[at], *head_of[2:]) for at, head_of in enumerate(heads, 1))
-    return head + segments + body + table_of
+    return header + segments + body + table_of

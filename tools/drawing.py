@@ -10,7 +10,7 @@ import functools
 import html
 import math
 from dataclasses import dataclass, field
-from typing import Dict, Iterable, Iterator, List, Optional, Tuple
+from typing import Dict, Iterable, Iterator, List, Optional, Set, Tuple
 
 from report import MOST_SLOTS, Environment, Listener, Mark, Slice
 
@@ -88,7 +88,7 @@ class Spot:
 
     x: float
     kinds: Dict[str, int]
-    envs: set
+    envs: Set[Optional[int]]
     rows: List[str]
     until: int = 0  # of the last `asked`: its deadline, or where that ended before it came
     is_over: bool = False  # whether it ended so, since it was moved, or by a death
@@ -201,9 +201,12 @@ class Picture(Listener):
         """Takes a mark in, if its tick lies in the range. Deaths are few and stand for themselves."""
         if kind in ("asked", "take"):
             self.revocations.append(Mark(kind, time, env, slot, row, until))
+        if env is None:
+            self.keep((PACKETS, 0), kind, time, env, row)
+            return
         if kind in ("asked", "dead", "exit"):
             self.end_deadline(env, time + KINDS[kind].after)
-        lane = (self.what, self.lane(slot, env)) if slot is not None else (PACKETS, 0) if env is None else (PAGES, env)
+        lane = (self.what, self.lane(slot, env)) if slot is not None else (PAGES, env)
         if kind in ("dead", "exit"):
             self.spots.setdefault(lane, {})
             if self.first <= time < self.end:
@@ -387,17 +390,17 @@ class Drawing:
         self.slots = sorted({bar.slot for bar in picture.bars} | set(picture.holdings)) if picture.by_env else lanes
         self.places: Dict[Lane, Place] = {}
         top = AXIS
-        for lane in lanes:
-            room = NOTE_HEIGHT if any(note.lane == lane for note in self.notes) else 0
-            self.places[picture.what, lane] = Place(top, height + room, room)
+        for which in lanes:
+            room = NOTE_HEIGHT if any(note.lane == which for note in self.notes) else 0
+            self.places[picture.what, which] = Place(top, height + room, room)
             top += height + room
         for lane in sorted(lane for lane in picture.spots if lane[0] not in (SLOT, ENV)):
             self.places[lane] = Place(top + 4, 22)
             top += 26
         self.bottom = top
-        self.labelled: set = set()  # lanes and environments that have a short label
+        self.labelled: Set[Tuple[int, int]] = set()  # lanes and environments that have a short label
         self.parts: List[str] = []
-        self.seen: set = set()  # kinds of marks, and what else the legend explains
+        self.seen: Set[str] = set()  # kinds of marks, and what else the legend explains
 
     @property
     def width(self) -> float:
@@ -419,16 +422,16 @@ class Drawing:
             self.lane(what, which, place)
         for piece in self.picture.bars:
             self.bar(piece)
-        for lane, columns in self.picture.columns.items():
-            self.columns(self.places[self.picture.what, lane], columns)
+        for which, columns in self.picture.columns.items():
+            self.columns(self.places[self.picture.what, which], columns)
         for slot, held in self.picture.holdings.items():
             if not self.picture.by_env:
                 self.strip(self.places[SLOT, slot], held)
         for lane, spots in self.picture.spots.items():
             for spot in cluster(spots.values()):
                 self.spot(self.places[lane], spot)
-        for kind, lane, env, time, row in self.picture.deaths:
-            place = self.places[self.picture.what, lane]
+        for kind, which, env, time, row in self.picture.deaths:
+            place = self.places[self.picture.what, which]
             self.seen.add(kind)
             self.use(kind, self.x(time + 1), place.bar + place.bar_height / 2, env, row)
         for number_of, note in enumerate(self.notes, 1):
@@ -485,8 +488,8 @@ class Drawing:
         if what in (SLOT, ENV):
             middle = place.bar + place.bar_height / 2 + 4
             name = f"{what} {which}"
-            held = picture.holdings.get(which, ()) if what == SLOT else ()
-            owner = which if what == ENV else next((holding.owner for holding in held if holding.owner is not None), None)
+            owners = [it.owner for it in picture.holdings.get(which, ()) if it.owner is not None] if what == SLOT else []
+            owner = which if what == ENV else owners[0] if owners else None
             self.put(f'<path class="well" d="M{GUTTER} {number(place.bar)}h{picture.width}'
                      f'v{number(place.bar_height)}h{-picture.width}z"/>')
         elif what == PAGES:
@@ -613,7 +616,7 @@ class Drawing:
             more = spot.count - len(spot.rows)
             says = f"{counted(spot.count, 'row')}: {kinds}\n{says}" + (f"\nand {more:,} more" if more else "")
         x = GUTTER + spot.x
-        if kind == "asked":
+        if kind == "asked" and env is not None:
             self.deadline(place, x, env, spot)
         if self.picture.by_env and kind in TRANSFERS and spot.count == 1:
             self.seen.add("handed")

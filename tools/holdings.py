@@ -129,7 +129,8 @@ class Bound:
 
 def bound_stretches(head: Head) -> List[Bound]:
     """The bindings of all environments, by rising VPN."""
-    whose, found = owners(head), []
+    whose = owners(head)
+    found: List[Bound] = []
     for env in head.environments:
         for vpn, page, access in env.holds.get("bind", ()):
             it = Bound(env.number, int(vpn, 16), int(page), 1, access, whose.get(int(page), (None, ""))[0])

@@ -106,7 +106,7 @@ class Knowledge:
 
     def restart(self) -> Optional[int]:
         """Where it goes on at its next start: at the branch, if its delay slot was due."""
-        pc = self.cells[PC]
+        pc: Optional[int] = self.cells[PC]
         return pc - 4 if self.cells[SLOT] and pc is not None else pc
 
     def continue_at(self, address: Optional[int], after: Any = ABSENT, in_slot: bool = False) -> None:
@@ -142,9 +142,10 @@ class Knowledge:
         if self.cells.get(("shared", bound.page)):
             raise Unknown("others or the kernel store there too")
         place = address % PAGE_SIZE
-        value = self.cells.get(("byte", bound.page, place), ABSENT)
-        if value is ABSENT:
+        key = ("byte", bound.page, place)
+        if key not in self.cells:
             return self.boot.pages[bound.vpn][place] if bound.page[0] == "vpn" else 0
+        value: Optional[int] = self.cells[key]
         if value is None:
             raise Unknown("it came from elsewhere")
         return value
@@ -175,7 +176,7 @@ class Knowledge:
             self.put_bytes(CONTEXT, place, [None] * 4 if word is None else word.to_bytes(4, "little"))
             place += 4
 
-    def lose_page(self, number: int) -> None:
+    def lose_page(self, number: Optional[int]) -> None:
         """A page of its own is none any more, nor bound, nor a ring."""
         self.put(CLAIMS, tuple(it for it in self.cells[CLAIMS] if it.page != number))
         page = self.cells.get(("own", number))

@@ -65,7 +65,7 @@ class Places:
     symbols: str = ""  # the path of the file with symbols of a program in C
     sources: Dict[str, List[str]] = field(default_factory=dict)  # the lines of each file
 
-    def __post_init__(self):
+    def __post_init__(self) -> None:
         self.order = sorted((address, name) for name, address in self.labels.items())
 
     def name(self, address: int) -> str:

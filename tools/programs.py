@@ -5,8 +5,6 @@ by a manifest; and run by a schedule. Why it can't be done is raised as `Failed`
 from __future__ import annotations
 
 import argparse
-import importlib.machinery
-import importlib.util
 import io
 import os
 import re
@@ -15,6 +13,7 @@ import struct
 import subprocess
 import tempfile
 from dataclasses import dataclass, field
+from types import ModuleType
 from typing import Callable, Dict, List, Optional, Set, Tuple
 
 import built
@@ -23,21 +22,21 @@ import refusals
 from elf_symbols import symbols
 from faults import faults, plain
 from limits import LEAST_QUANTUM, MOST_ENVIRONMENTS, MOST_MAPPINGS, MOST_QUANTUM, PAGE_SIZE, VERSIONS
+from loading import loaded
 from report import Report, read
 from shown import decoded, shown
 from source import Source, read_source
 
 
-def tool(name: str):
-    """Another tool of this folder, as a module."""
-    loader = importlib.machinery.SourceFileLoader(name, f"{HERE}/{name}")
-    module = importlib.util.module_from_spec(importlib.util.spec_from_loader(name, loader))
-    loader.exec_module(module)
-    return module
-
-
 HERE = os.path.dirname(os.path.abspath(os.path.realpath(__file__)))
 ROOT = os.path.dirname(HERE)
+
+
+def tool(name: str) -> ModuleType:
+    """Another tool of this folder, as a module."""
+    return loaded(f"{HERE}/{name}")
+
+
 LINT = tool("lint")
 COMPILER = "mipsel-linux-gnu-gcc"
 # What a compiler or linker of C lacks here, and why.
@@ -183,7 +182,7 @@ def without_blanks(folder: str, room: str, link: str) -> str:
     return link
 
 
-def made(path: str, room: str, target: str) -> subprocess.CompletedProcess:
+def made(path: str, room: str, target: str) -> subprocess.CompletedProcess[bytes]:
     """Has the examples' Makefile make this of a program in C."""
     beside = without_blanks(os.path.dirname(os.path.abspath(path)), room, "beside.link")
     examples = without_blanks(f"{ROOT}/examples/c", room, "examples.link")
@@ -247,9 +246,12 @@ def name_of(path: str, names: List[str]) -> str:
     return name
 
 
-def maker(path: str) -> Optional[Maker]:
+def maker(path: str) -> Maker:
     """What makes a program of a file of this name."""
-    return MAKERS.get(os.path.splitext(path)[1].lower())
+    make = MAKERS.get(os.path.splitext(path)[1].lower())
+    if make is None:
+        raise Failed(USAGE, f"{path}: a source ends in .s, .asm, .c or .elf, and a manifest, which stands alone, in .txt")
+    return make
 
 
 def sources_beside(path: str) -> List[str]:
@@ -307,10 +309,7 @@ def from_sources(paths: List[str], quantum: int, room: str) -> List[Program]:
     """The programs of these files, and a manifest of them."""
     programs: List[Program] = []
     for path in paths:
-        make = maker(path)
-        if make is None:
-            raise Failed(USAGE, f"{path}: a source ends in .s, .asm, .c or .elf, and a manifest, which stands alone, in .txt")
-        programs.append(make(path, room, name_of(path, [it.name for it in programs])))
+        programs.append(maker(path)(path, room, name_of(path, [it.name for it in programs])))
         listed(programs[-1], room)
     version, most = next((number, most) for number, most in VERSIONS.items() if len(programs) <= most.most_environments)
     lines = [*([f"version {version}"] if version > 1 else []), f"pages {most.most_pages}",
@@ -467,7 +466,7 @@ def reported(machine: Machine, text: str) -> Report:
 # --- The words of a tool that runs programs -------------------------------------------------------------------
 
 
-def whole(least: int, most: int):
+def whole(least: int, most: int) -> Callable[[str], int]:
     """A word that is a number between two others."""
     def number(word: str) -> int:
         if not re.fullmatch(r"[0-9]{1,10}", word) or not least <= int(word) <= most:

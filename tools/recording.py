@@ -74,7 +74,7 @@ class Note(NamedTuple):
 
     kind: str
     tick: int
-    words: Tuple = ()
+    words: Tuple[Any, ...] = ()
 
 
 @dataclass
@@ -103,7 +103,7 @@ class Recording:
     tail: List[Change]
     report: Report
     notes: List[Note]  # what happened after the last step
-    boot: Callable[[], Knowledge] = field(repr=False, default=None)
+    boot: Callable[[], Knowledge] = field(repr=False)
 
 
 # What happens, in the order within a tick.
@@ -120,7 +120,7 @@ class Happening(NamedTuple):
     order: int
     env: int
     what: str
-    words: Tuple
+    words: Tuple[Any, ...]
 
 
 def callers(report: Report, number: int) -> List[int]:
@@ -135,8 +135,8 @@ def happenings(report: Report, traces: Dict[int, Trace], events: List[Event]) ->
     """All that concerns the environments with these traces, in order."""
     found: List[Happening] = []
 
-    def add(tick: int, phase: int, env: int, what: str, *words) -> None:
-        if env in traces:
+    def add(tick: int, phase: int, env: Optional[int], what: str, *words: object) -> None:
+        if env is not None and env in traces:
             found.append(Happening(tick, phase, len(found), env, what, words))
 
     for tick, kind, which in events:
@@ -149,7 +149,10 @@ def happenings(report: Report, traces: Dict[int, Trace], events: List[Event]) ->
             add(it.time, BEFORE, it.env, it.kind, *words[3:])
         elif it.kind == "give" or it.kind in TRANSFERS:
             add(it.time, GIVEN, int(words[3]), "gives", it.kind, int(words[4]))
-            add(it.time, GIVEN, int(words[4]), *(("given", int(words[3])) if it.kind == "give" else ("enter", int(words[3]), TRANSFERS.index(it.kind))))
+            if it.kind == "give":
+                add(it.time, GIVEN, int(words[4]), "given", int(words[3]))
+            else:
+                add(it.time, GIVEN, int(words[4]), "enter", int(words[3]), TRANSFERS.index(it.kind))
         elif it.kind == "end":
             add(it.time, END, it.env, "end")
     for piece in report.slices:
@@ -279,8 +282,9 @@ class Follower:
             known.continue_at(row.pc + 4)
         else:
             self.machine_step(known, row, following, ends)
-            if self.raised and known.registers[AT] is not None:
-                step.cause = known.registers[AT] >> 2 & 31
+            told = known.registers[AT]
+            if self.raised and told is not None:
+                step.cause = told >> 2 & 31
         if ends and not row.is_dead:
             self.note(known, "end", tick, known.cells["handler", ENDS])
             goes_to_k0 = re.match(r"\S+ \$26\b", row.text) and not is_store(row.word or 0)
@@ -305,7 +309,7 @@ class Follower:
         handler = known.cells["handler", EXCEPTIONS]
         if code is None and after is not None and after != handler:
             goes_on = following is not None and following.tick == row.tick + 1 and (known.number, following.tick) not in self.turns
-            went = row.told.get(K0, before[K0]) if ends else following.pc if goes_on else None
+            went = row.told.get(K0, before[K0]) if ends else following.pc if following is not None and goes_on else None
             code = 0 if went == after else -1 if went == handler else None
         self.epc, self.raised = row.pc - 4 if in_slot else row.pc, bool(code)
         self.tell(known, row)
@@ -325,7 +329,7 @@ class Follower:
     def code(self, known: Knowledge, row: Row, address: Optional[int]) -> Optional[int]:
         """The exception's code, 0 for none, None where that isn't known."""
         if row.text.startswith(".word"):
-            return 11 if row.word >> 26 in COPROCESSORS else 10
+            return 11 if row.word is not None and row.word >> 26 in COPROCESSORS else 10
         return cause(row.word, row.pc, known.cells[SLOT], known.registers, known.mapped(address) if address is not None else None)
 
     def store(self, known: Knowledge, word: int, address: Optional[int], registers: List[Optional[int]]) -> None:

@@ -4,7 +4,7 @@ from __future__ import annotations
 
 import difflib
 import re
-from typing import Callable, Dict, Optional
+from typing import Callable, Dict, List, Optional, Sequence
 
 from limits import (LEAST_PAGES, LEAST_QUANTUM, MOST_ASKED, MOST_EVENTS, MOST_LINE, MOST_MAPPINGS, MOST_PACKET_SIZE, MOST_QUANTUM, MOST_SLOTS,
                     MOST_STACK_PAGES, MOST_TARGET, MOST_RUN_TICKS, VERSIONS, Version)
@@ -174,7 +174,7 @@ def wide(character: str, line: str) -> str:
     return next((it for it in decoded(line) if ord(it) > 127), character) if character > "\x7f" else character
 
 
-def bad_registers(said: Statement):
+def bad_registers(said: Statement) -> List[str]:
     """The registers that there aren't, as they are written."""
     words = re.findall(r"\$\w*", " ".join(it for it in said.operands if not it.startswith('"')))
     return [it for it in words if register(it[1:]) is None]
@@ -300,7 +300,7 @@ def of_the_operands(source: Source, said: Statement) -> Optional[str]:
     return None
 
 
-def of_an_operand(name: str, kind: str, operand: str, operands) -> Optional[str]:
+def of_an_operand(name: str, kind: str, operand: str, operands: Sequence[str]) -> Optional[str]:
     """What is wrong with one operand where another form is due."""
     if kind == "r" and not operand.startswith("$"):
         if register(operand) is not None and not operand.isdigit():

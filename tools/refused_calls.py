@@ -50,12 +50,13 @@ def refusals(text: str, entries: List[int]) -> List[Refusals]:
                     registers[PLACES[words[at]]] = int(words[at + 1], 16)
                 at -= 2
         address = int(words[1], 16)
-        if words[3] == CALL_NAME and words[-1] != "dead" and address != slot and registers[CODE]:
-            key = (address, before[CODE], registers[CODE])
+        code = registers[CODE]
+        if words[3] == CALL_NAME and words[-1] != "dead" and address != slot and code:
+            key = (address, before[CODE], code)
             if key in found:
                 found[key].times += 1
             else:
-                found[key] = Refusals(key[0], asked(before), key[2])
+                found[key] = Refusals(address, asked(before), code)
         slot = address + 4 if words[3] in JUMPS else -1
     return list(found.values())
 

@@ -14,10 +14,9 @@ kernel's other rules are kept isn't tested here.
 from __future__ import annotations
 
 import python_version  # first: ends the tool where Python is too old
-import functools
 import re
 from dataclasses import dataclass, field
-from typing import Dict, Iterable, List, Optional, TextIO, Tuple
+from typing import Any, Callable, Dict, Iterable, List, Match, Optional, Pattern, Protocol, Tuple
 
 from limits import MOST_ENVIRONMENTS, MOST_SLOTS, MOST_RUN_TICKS
 
@@ -52,7 +51,7 @@ CAUSES = {
 }
 
 
-def form(text: str) -> re.Pattern:
+def form(text: str) -> Pattern[str]:
     """The form of a line: `N` stands for a decimal number."""
     return re.compile(text.replace("N", r"(\d{1,10})"), re.ASCII)
 
@@ -85,12 +84,19 @@ WORDS = {*HEAD, *ROWS, *TAIL, *TLB}
 TLB_ROWS = 64
 
 
+class Text(Protocol):
+    """What can be read piece by piece."""
+
+    def read(self, size: int = -1, /) -> str:
+        """At most so many characters, or all; none where nothing is left."""
+
+
 class Lines:
     """The lines of a file in order. `text` is the line that `number` counts, from 1; it is read block by block."""
 
     BLOCK = 1 << 18
 
-    def __init__(self, source: TextIO):
+    def __init__(self, source: Text):
         self.source = source
         self.block = ""
         self.start = self.next = 0  # where the line begins in the block, and where the one behind it does
@@ -135,14 +141,14 @@ class Lines:
         """The line's first word."""
         return self.text.split(" ", 1)[0]
 
-    def fields(self, pattern: re.Pattern) -> Tuple[Optional[str], ...]:
-        """What the form's groups say in this line, which is refused where it has another form."""
+    def fields(self, pattern: Pattern[str]) -> Tuple[str, ...]:
+        """What the form's groups say in this line, which is refused where it has another form. A group that isn't there says nothing."""
         match = pattern.fullmatch(self.text)
         if match is None:
             raise self.misplaced()
-        return match.groups()
+        return match.groups("")
 
-    def take(self, pattern: re.Pattern) -> Tuple[Optional[str], ...]:
+    def take(self, pattern: Pattern[str]) -> Tuple[str, ...]:
         """The fields of this line; then goes on."""
         fields = self.fields(pattern)
         self.advance()
@@ -226,14 +232,14 @@ def read_head(lines: Lines) -> Head:
 def read_environment(lines: Lines, number: int) -> Environment:
     """Reads the lines of environment `number`."""
 
-    def own_line(word: str) -> Tuple[Optional[str], ...]:
+    def own_line(word: str) -> Tuple[str, ...]:
         fields = lines.fields(HEAD[word])
         if int(fields[0]) != number:
             raise Refused(lines.number, f"environment {number} is due here")
         return fields
 
     _, name, live, exited, code, dead, cause = own_line("env")
-    env = Environment(number, name, live or exited or dead, code or cause or "")
+    env = Environment(number, name, live or exited or dead, code or cause)
     lines.advance()
     _, length, env.console = own_line("out")
     env.console_bytes = int(length)
@@ -309,12 +315,18 @@ class Misfit(Exception):
     """Why a row can't follow those before it."""
 
 
-numbers = functools.partial(map, int)  # of a row's fields
+def numbers(fields: Iterable[str]) -> Iterable[int]:
+    """The numbers of a row."""
+    return map(int, fields)
 
 
 def dashed(fields: Iterable[Optional[str]]) -> List[Optional[int]]:
     """The numbers of a row that may have dashes in place of some."""
     return [None if text is None else int(text) for text in fields]
+
+
+# A row's form, what makes numbers of its fields, and the method that takes these.
+Way = Tuple[Callable[[str], Optional[Match[str]]], Callable[[Iterable[Any]], Iterable[Optional[int]]], Callable[..., None]]
 
 
 class Ledger:
@@ -339,8 +351,8 @@ class Ledger:
 
     def follow(self, lines: Lines) -> None:
         """Reads the rows and the sums up to the end of the file."""
-        handlers = {word: (pattern.fullmatch, dashed if word in DASHED else numbers, getattr(self, "row_" + word))
-                    for word, pattern in ROWS.items()}
+        handlers: Dict[str, Way] = {word: (pattern.fullmatch, dashed if word in DASHED else numbers, getattr(self, "row_" + word))
+                                    for word, pattern in ROWS.items()}
         first = lines.number
         try:
             while True:
@@ -373,7 +385,7 @@ class Ledger:
             plain = PLAIN.match(lines.block, to)
             if plain is None:
                 break
-            alone = plain.lastindex < 6
+            alone = plain[6] is None
             if not (self.plain_slice(*plain.group(1, 2, 3, 4, 5)) if alone else self.plain_gift(plain.group(6))):
                 break
             rows += 2 if alone else 1
@@ -454,7 +466,7 @@ class Ledger:
             if self.head.ending == "idle":
                 raise Refused(2, f"`{end}`, but environment {self.runner.env} still runs")
             self.text = end
-            self.close(self.ended)
+            self.close(self.runner, self.ended)
         elif self.turn != self.ended:
             raise Refused(2, f"`{end}`, but nobody has tick {self.turn}")
 
@@ -496,9 +508,8 @@ class Ledger:
             raise Misfit(f"its slice begins with tick {runner.start}")
         return runner
 
-    def close(self, end: int) -> None:
+    def close(self, runner: Slice, end: int) -> None:
         """The runner's slice has the ticks below `end`."""
-        runner = self.runner
         runner.end = end
         runner.rows += "\n" + self.text
         self.ticks[runner.env] += end - runner.start
@@ -520,7 +531,7 @@ class Ledger:
             self.boot_slot = slot
         if slot >= MOST_SLOTS:
             raise Misfit("no such slot")
-        if owner is not None and max(owner, holder) >= self.count:
+        if max(owner or 0, holder or 0) >= self.count:
             raise Misfit("no such environment")
         self.listener.add_holder(slot, 0 if boot else time + 1, owner, holder, self.text)
 
@@ -551,7 +562,7 @@ class Ledger:
             raise Misfit("it gives to itself")
         if runner.grace is not None:
             raise Misfit("it gives in grace")
-        self.close(time + 1)
+        self.close(runner, time + 1)
         self.runner = Slice(slot, to, time + 1, self.text)
         self.mark(kind, time, to, slot)
 
@@ -569,13 +580,11 @@ class Ledger:
         self.mark("over", time, env, slot)
 
     def row_stop(self, time: int, slot: int, env: int) -> None:
-        self.running(time, slot, env, -1)
-        self.close(time + 1)
+        self.close(self.running(time, slot, env, -1), time + 1)
         self.turn = time + 1
 
     def row_dead(self, time: int, slot: int, env: int) -> None:
-        self.running(time, slot, env, 0)
-        self.close(time + 1)
+        self.close(self.running(time, slot, env, 0), time + 1)
         self.turn = time + 1
         self.died[env] = time
         self.mark("exit" if self.head.environments[env].life == "exit" else "dead", time, env, slot)
@@ -633,14 +642,14 @@ class Report(Listener):
     def add_slice(self, piece: Slice) -> None:
         self.slices.append(piece)
 
-    def add_mark(self, *fields) -> None:
-        self.marks.append(Mark(*fields))
+    def add_mark(self, kind: str, time: int, env: Optional[int], slot: Optional[int], row: str, until: int) -> None:
+        self.marks.append(Mark(kind, time, env, slot, row, until))
 
-    def add_holder(self, *fields) -> None:
-        self.holders.append(Holder(*fields))
+    def add_holder(self, slot: int, start: int, owner: Optional[int], holder: Optional[int], row: str) -> None:
+        self.holders.append(Holder(slot, start, owner, holder, row))
 
 
-def read(source: TextIO) -> Report:
+def read(source: Text) -> Report:
     """A whole report. Refused where it is none."""
     lines = Lines(source)
     report = Report(read_head(lines))

@@ -2,6 +2,7 @@
 
 from __future__ import annotations
 
+import io
 import re
 import sys
 
@@ -28,4 +29,5 @@ def decoded(latin: str) -> str:
 
 def open_output() -> None:
     """Standard output takes every character: what its encoding lacks is written as its digits."""
-    sys.stdout.reconfigure(errors="backslashreplace")
+    if isinstance(sys.stdout, io.TextIOWrapper):
+        sys.stdout.reconfigure(errors="backslashreplace")

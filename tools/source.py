@@ -10,6 +10,8 @@ import re
 from dataclasses import dataclass, field
 from typing import Dict, List, Optional
 
+from matching import matched
+
 TEXT, DATA = 0x00400000, 0x10000000
 MARK = "\xef\xbb\xbf"  # that some editors put before a text in UTF-8, read as Latin-1
 NAME = r"[A-Za-z_.][A-Za-z0-9_.]*"
@@ -59,8 +61,8 @@ class Statement:
 
     def registers(self) -> List[int]:
         """The registers that it names, in order."""
-        found = re.findall(r"\$(\w+)", " ".join(it for it in self.operands if not it.startswith('"')))
-        return [register(it) for it in found if register(it) is not None]
+        names = re.findall(r"\$(\w+)", " ".join(it for it in self.operands if not it.startswith('"')))
+        return [number for number in map(register, names) if number is not None]
 
 
 def register(name: str) -> Optional[int]:
@@ -70,7 +72,7 @@ def register(name: str) -> Optional[int]:
 
 def without_comment(line: str) -> str:
     """A line up to the `#` that begins its comment."""
-    return re.match(r'(?:[^#"]|"(?:[^"\\]|\\.)*"|"(?!.*"))*', line)[0]
+    return matched(r'^(?:[^#"]|"(?:[^"\\]|\\.)*"|"(?!.*"))*', line)[0]
 
 
 def parted(operands: str) -> List[str]:
@@ -161,4 +163,4 @@ def size_of(source: Source, it: Statement) -> int:
     value = source.value(it.operands[0]) if operation in (".space", ".align") and count else None
     if operation == ".space":
         return value or 0
-    return -it.address % 2**value if value is not None and value <= 12 else 0
+    return -it.address % (1 << value) if value is not None and value <= 12 else 0

@@ -44,7 +44,7 @@ def bytes_stored(step: Step, known: Knowledge, places: Places) -> List[str]:
     put = [it for it in step.own if isinstance(it.key, tuple) and it.key[0] == "byte" and it.key[1] != ("vpn", 1)]
     found = re.search(r",(-?\d+)\(\$(\d+)\)", step.row.text)
     base = known.registers[int(found[2])] if found else None
-    if not put or base is None:
+    if not put or found is None or base is None:
         return []
     address = base + int(found[1]) & 0xFFFFFFFF
     width = {40: 1, 41: 2}.get(step.row.word >> 26, 4)
@@ -83,7 +83,8 @@ def exception_shown(step: Step, known: Knowledge) -> str:
     """The exception that a step raised: its name, its code, and the bad address if it has one."""
     bad = known.registers[K1]
     where = f" at 0x{bad:08x}" if step.cause in OF_ADDRESSES and bad is not None else ""
-    return f"exception {EXCEPTIONS.get(step.cause, '?')} ({step.cause}){where}, to handler"
+    name = "?" if step.cause is None else EXCEPTIONS.get(step.cause, "?")
+    return f"exception {name} ({step.cause}){where}, to handler"
 
 
 class Meanwhile:
@@ -168,14 +169,14 @@ def memory_lines(known: Knowledge, address: int, words: int, places: Places) -> 
     address -= address % 4
     why: List[Tuple[int, str]] = []
     for first in range(address, address + 4 * words, 16):
-        data = []
+        data: List[Optional[int]] = []
         for at in range(first, min(first + 16, address + 4 * words)):
             try:
                 data.append(known.byte(at & 0xFFFFFFFF))
-            except Unknown as reason:
+            except Unknown as unknown:
                 data.append(None)
-                if not why or why[-1][1] != str(reason):
-                    why.append((at, str(reason)))
+                if not why or why[-1][1] != str(unknown):
+                    why.append((at, str(unknown)))
         digits = " ".join(word_shown(data[at: at + 4]) for at in range(0, len(data), 4))
         letters = "".join("?" if it is None else chr(it) if 32 <= it < 127 else "." for it in data)
         yield f"  {first & 0xFFFFFFFF:08x} {places.name(first):<10} {digits:<35}  {letters}"

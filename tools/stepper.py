@@ -155,7 +155,7 @@ class Stepper:
     def do_watch(self, rest: List[str], backwards: bool) -> Iterator[str]:
         address = self.address_of(rest[0])
         bound = None if address is None else self.known.page_at(address // PAGE_SIZE)
-        if bound is None or bound.page is None:
+        if address is None or bound is None or bound.page is None:
             return iter([f"at {rest[0]} is no page of which all stores are known"])
         keys = {("byte", bound.page, address % PAGE_SIZE // 4 * 4 + at) for at in range(4)}
         return self.sought(lambda it: any(change.key in keys for change in it.kernel + it.own), backwards, f"change of the word at {rest[0]}")

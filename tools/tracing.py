@@ -26,7 +26,7 @@ def traced(machine: Machine, ticks: int, env: int) -> Trace:
 
 def events_of(schedule: bytes) -> List[Event]:
     """The packets and signals of a schedule without a fault."""
-    found = []
+    found: List[Event] = []
     for line in schedule.decode("latin-1").split("\n"):
         words = line.split("#")[0].split()
         if len(words) == 3:

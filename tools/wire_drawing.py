@@ -4,7 +4,7 @@ from __future__ import annotations
 
 import html
 from dataclasses import dataclass
-from typing import List, Optional, Tuple
+from typing import List, Optional, Set, Tuple
 
 from drawing import AXIS, GUTTER, HUES, Drawing, counted, number, whole
 from limits import MOST_MACHINES
@@ -45,7 +45,8 @@ class WireDrawing:
     """The picture of a wire. All drawings are of the same ticks, with the same width."""
 
     def __init__(self, machines: List[Machine], packets: List[Packet], delay: int):
-        self.machines, self.delay, self.seen = machines, delay, set()
+        self.machines, self.delay = machines, delay
+        self.seen: Set[str] = set()
         self.first, self.end = machines[0].drawing.picture.first, machines[0].drawing.picture.end
         self.packets = [it for it in packets if self.first <= it.tick < self.end]
         self.height = 0.0

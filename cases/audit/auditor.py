@@ -3,7 +3,7 @@ end are tested by what the rows before them say."""
 from __future__ import annotations
 
 import re
-from typing import Any, List, Optional, Sequence, Tuple
+from typing import Any, Dict, List, Optional, Sequence, Set, Tuple
 
 Kind = Tuple[str, int]  # of a number: its name and its limit
 Row = List[Any]  # a name and numbers, of which a dash is none
@@ -63,7 +63,9 @@ class Ledger:
     """What a report says: how the run ended and when, its rows and its sums, each with its line."""
 
     def __init__(self, text: bytes):
-        self.rows, self.sums, last = [], [], "nothing"
+        self.rows: List[Tuple[int, Row]] = []
+        self.sums: List[Tuple[int, List[int]]] = []
+        last = "nothing"
         lines = lines_of(text)
         for line, content in enumerate(lines, 1):
             last = self.read(line, content, last)
@@ -107,7 +109,8 @@ class Plan:
     """Who hands slices on, and the share of each client."""
 
     def __init__(self, text: bytes):
-        self.shares, lines = {}, lines_of(text)
+        self.shares: Dict[int, int] = {}
+        lines = lines_of(text)
         for line, content in enumerate(lines, 1):
             name, *words = content.split(b" ")
             if line == 1:
@@ -133,10 +136,15 @@ class Auditor:
         self.rows = [row for _, row in ledger.rows]
         self.counts = {name: [0] * (LAST_ENV + 1) for name in ("run", "pay", "over")}
         self.gifts = [0] * (LAST_ENV + 1)
-        self.slots, self.cursor, self.dead = {}, LAST_SLOT, set()
-        self.runner = self.asked_by = self.boot_slot = None
+        self.slots: Dict[int, Tuple[int, int]] = {}
+        self.cursor = LAST_SLOT
+        self.dead: Set[int] = set()
+        self.runner: Optional[int] = None
+        self.asked_by: Optional[int] = None
+        self.boot_slot: Optional[int] = None
         self.grace, self.slice_start, self.grace_start, self.next_turn, self.time = False, 0, 0, 0, 0
-        self.is_boot, self.due = True, []
+        self.is_boot = True
+        self.due: List[Row] = []
 
     def excess(self, env: int) -> int:
         return 0 if env in self.dead else max(0, self.counts["over"][env] - self.counts["pay"][env])
@@ -196,10 +204,10 @@ class Auditor:
         return self.is_runners(slot, giver) and giver != to and not self.grace
 
     def fits_give(self, _: int, time: int, slot: int, giver: int, to: int) -> bool:
-        return self.is_gift(slot, giver, to) and (self.plan is None or giver != self.plan.scheduler or to == self.next_client())
+        return self.is_gift(slot, giver, to) and (self.plan is None or giver != self.plan.scheduler or to == self.next_client(self.plan))
 
-    def next_client(self) -> int:
-        return min(self.plan.shares, key=lambda client: (self.gifts[client] * STRIDE_UNIT // self.plan.shares[client], client))
+    def next_client(self, plan: Plan) -> int:
+        return min(plan.shares, key=lambda client: (self.gifts[client] * STRIDE_UNIT // plan.shares[client], client))
 
     def fits_async(self, _: int, time: int, slot: int, giver: int, to: int) -> bool:
         return self.is_gift(slot, giver, to)

@@ -121,7 +121,7 @@ class Claimer(guests.Guest):
     BLOCKS = ((claim_another, 30), (unclaim, 4), (guests.Guest.empty, 14), (guests.Guest.handle_packets, 1.5), (change_ring, 0.7), (Program.wait, 4),
               (Program.give_up, 3), (guests.Guest.look, 1))
 
-    def made(self) -> Tuple[bytes, bytes]:
+    def code_and_data(self) -> Tuple[bytes, bytes]:
         """The bytes of the code, and those of the data."""
         if self.has_handler:
             self.handle(EXCEPTIONS)

@@ -4,13 +4,13 @@ from __future__ import annotations
 import os
 import re
 import sys
-from typing import Callable, Dict, List, Sequence, Tuple
+from typing import Callable, Dict, List, Optional, Sequence, Tuple
 
 CASES = os.path.dirname(os.path.dirname(os.path.realpath(__file__)))
 sys.path[:0] = [f"{CASES}/reference_model", f"{CASES}/audit"]
 import auditor
-import bare
-import report
+import bare_board
+import run_report
 import wire
 from assembler import assemble, listed
 from files import Fault, image_of, read_elf, read_image, read_manifest
@@ -26,7 +26,8 @@ Answer = Tuple[int, bytes]  # a status, and what is written
 FILE = None  # of a form: a word that names a file
 # By command, its words: the name of a file, or the least and the greatest number.
 TICKS = (0, MOST_RUN_TICKS)
-FORMS: Dict[str, Tuple] = {
+Form = Tuple[Optional[Tuple[int, int]], ...]
+FORMS: Dict[str, Form] = {
     "run": (FILE, FILE, TICKS), "tlb": (FILE, FILE, TICKS), "trace": (FILE, FILE, (0, MOST_TRACED_TICKS), (0, MOST_TARGET)), "asm": (FILE,),
     "image": (FILE,), "list": (FILE,), "load": ((0, 2**32 - 1),), "bare": (FILE, TICKS, TICKS), "audit": (FILE, (LEAST_QUANTUM, MOST_QUANTUM)),
     "twin": (FILE, FILE, FILE, FILE, (0, MOST_TARGET), (1, MOST_COMPARED_SLICES)),
@@ -34,7 +35,7 @@ FORMS: Dict[str, Tuple] = {
 WIRE = ((1, MOST_DELAY), (0, MOST_WIRE_TICKS))
 
 
-def form_of(words: Sequence[str]) -> Tuple:
+def form_of(words: Sequence[str]) -> Form:
     """The form that so many words of a command have, or none."""
     if words[0] == "wire" and len(words) > 3 and len(words) % 2 and len(words) <= 3 + 2 * MOST_MACHINES:
         return WIRE + (FILE,) * (len(words) - 3)
@@ -43,8 +44,8 @@ def form_of(words: Sequence[str]) -> Tuple:
     return FORMS.get(words[0], ())
 
 
-def fits(word: str, part: Tuple[int, int]) -> bool:
-    return part is FILE or re.fullmatch("[0-9]{1,10}", word) is not None and part[0] <= int(word) <= part[1]
+def fits(word: str, part: Optional[Tuple[int, int]]) -> bool:
+    return part is None or re.fullmatch("[0-9]{1,10}", word) is not None and part[0] <= int(word) <= part[1]
 
 
 def is_command(words: Sequence[str]) -> bool:
@@ -67,7 +68,7 @@ def named(words: Sequence[str], files: Files) -> List[Tuple[str, bytes]]:
 
 
 def run(words: Sequence[str], files: Files) -> Answer:
-    status, text, _ = report.answer(named(words, files), int(words[3]))
+    status, text, _ = run_report.answer(named(words, files), int(words[3]))
     return status, text.encode("latin-1")
 
 
@@ -78,7 +79,7 @@ def tlb(words: Sequence[str], files: Files) -> Answer:
 
 def trace(words: Sequence[str], files: Files) -> Answer:
     traces, ticks = Traces(), int(words[3])
-    status, text, board = report.answer(named(words, files), ticks, traces.finish)
+    status, text, board = run_report.answer(named(words, files), ticks, traces.finish)
     return status, (traces.text(board, ticks, int(words[4])) if board else text).encode("latin-1")
 
 
@@ -115,8 +116,8 @@ def audit(words: Sequence[str], files: Files) -> Answer:
     return status, text.encode("latin-1")
 
 
-def bare_board(words: Sequence[str], files: Files) -> Answer:
-    status, text, _ = bare.answer(words[1], files[words[1]], int(words[2]), int(words[3]))
+def bare(words: Sequence[str], files: Files) -> Answer:
+    status, text, _ = bare_board.answer(words[1], files[words[1]], int(words[2]), int(words[3]))
     return status, text.encode("latin-1")
 
 
@@ -132,7 +133,7 @@ def twin(words: Sequence[str], files: Files) -> Answer:
 
 
 COMMANDS: Dict[str, Callable[[Sequence[str], Files], Answer]] = {
-    "run": run, "tlb": tlb, "trace": trace, "asm": asm, "list": list_elf, "image": image, "audit": audit, "bare": bare_board, "wire": wired,
+    "run": run, "tlb": tlb, "trace": trace, "asm": asm, "list": list_elf, "image": image, "audit": audit, "bare": bare, "wire": wired,
     "twin": twin,
 }
 

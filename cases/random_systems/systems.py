@@ -16,7 +16,7 @@ from __future__ import annotations
 import os
 import random
 import sys
-from typing import List, Tuple, Union
+from typing import Callable, Dict, List, Protocol, Tuple, Union
 
 sys.path.insert(0, os.path.dirname(os.path.dirname(os.path.realpath(__file__))))
 import binary
@@ -36,16 +36,28 @@ OPCODES = {"lb": 32, "lh": 33, "lwl": 34, "lw": 35, "lbu": 36, "lhu": 37, "lwr":
 WIDTHS = {"lh": 2, "lhu": 2, "sh": 2, "lw": 4, "sw": 4}
 
 
+class Machine(Protocol):
+    """What a program has to know of its machine."""
+
+    total: int  # guaranteed pages
+    pages: int
+    guaranteed: List[List[int]]
+    slots: List[int]
+
+
+Blocks = Tuple[Tuple[Callable[..., None], float], ...]  # methods that add something to a program, and how often each is taken
+
+
 class Program:
     """The words of one environment's program, as they are made."""
 
-    def __init__(self, chance: random.Random, system: System, number: int):
+    def __init__(self, chance: random.Random, system: Machine, number: int):
         self.chance, self.guaranteed, self.pages = chance, system.total, system.pages
         self.own, self.count, self.slots = number, len(system.guaranteed), len(system.slots)
-        self.words = []
+        self.words: List[int] = []
         self.has_handler = chance.random() < 0.8
         # by kind of its handler, the places of the words that put its address into a register
-        self.wanted = {kind: [] for kind in CONTEXTS}
+        self.wanted: Dict[int, List[int]] = {kind: [] for kind in CONTEXTS}
         shares = ((STARTS, 0.35), (ENDS, 0.5), (ASYNCHRONOUS, 0.8), (SYNCHRONOUS, 0.8))
         self.hears = [kind for kind, share in shares if chance.random() < share]
 
@@ -253,7 +265,7 @@ class Program:
             overflow = (immediate(15, 0, 9, 0x8000), register(32, 9, 9, 9))
             self.add(*self.chance.choice(((BREAK,), overflow, (0xFFFFFFFF,), (0x40086000,), (0x4C000000,))))
 
-    BLOCKS = ((allocate, 4), (free, 1), (recap, 2), (bind_own, 4), (bind_shared, 8), (unbind, 2), (give_up, 2), (put, 3), (ask, 1),
+    BLOCKS: Blocks = ((allocate, 4), (free, 1), (recap, 2), (bind_own, 4), (bind_shared, 8), (unbind, 2), (give_up, 2), (put, 3), (ask, 1),
               (give, 4), (transfer, 9), (accept, 3), (take, 2), (drop, 2), (query, 3), (hear, 1),
               (other_calls, 1), (accesses, 4), (fill, 2), (delay_slot, 2), (arithmetic, 3), (fault, 1))
 

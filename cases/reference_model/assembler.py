@@ -6,10 +6,10 @@ from __future__ import annotations
 import re
 import sys
 from dataclasses import dataclass
-from typing import Dict, Iterator, List, Optional, Tuple, Union
+from typing import Dict, Iterable, Iterator, List, NamedTuple, Optional, Tuple
 
 import listing
-from files import CHARACTERS, Fault, lines_of
+from files import CHARACTERS, Fault, Segment, lines_of
 
 import binary
 
@@ -60,8 +60,13 @@ class Expression:
         return value % MODULUS
 
 
-# A register's text; an expression; an expression or none and a register's text; or a quoted text's bytes.
-Operand = Tuple[str, object]
+class Operand(NamedTuple):
+    """An operand: its form, which is r, v, m or q, and of that a register's text, an expression, both, or the bytes of a quoted text."""
+
+    form: str
+    register: str = ""
+    value: Expression = Expression(None, 0, [])
+    data: bytes = b""
 
 
 @dataclass
@@ -102,12 +107,12 @@ def expression(text: str) -> Expression:
 
 def operand(text: str) -> Operand:
     if re.fullmatch(REGISTER, text):
-        return "r", text
+        return Operand("r", text)
     if re.fullmatch(QUOTED, text):
-        return "q", re.sub(r"\\(.)", lambda it: ESCAPES[it[1]], text[1:-1]).encode("latin-1")
+        return Operand("q", data=re.sub(r"\\(.)", lambda it: ESCAPES[it[1]], text[1:-1]).encode("latin-1"))
     if found := re.fullmatch(rf"(.*)\(({REGISTER})\)", text):
-        return "m", (expression(found[1]) if found[1] else Expression(None, 0, []), found[2])
-    return "v", expression(text)
+        return Operand("m", found[2], expression(found[1]) if found[1] else Expression(None, 0, []))
+    return Operand("v", value=expression(text))
 
 
 def pieces(content: str) -> List[str]:
@@ -155,27 +160,33 @@ def register(text: str) -> Optional[int]:
     return NAMED.get(text[1:])
 
 
+def known_register(text: str) -> int:
+    """The number of a register that there is."""
+    number = register(text)
+    assert number is not None, "the first pass refuses the others"
+    return number
+
+
 def forms_of(letters: str) -> str:
     """The forms of an instruction's operands."""
     return "".join("r" if letter in FIELDS else "m" if letter == "m" else "v" for letter in letters)
 
 
 def is_plain_number(it: Operand) -> bool:
-    return it[0] == "v" and it[1].name is None and not it[1].halves
+    return it.form == "v" and it.value.name is None and not it.value.halves
 
 
-def has_form(line: Line) -> bool:
+def has_form(name: str, operands: List[Operand]) -> bool:
     """Whether the operands of a known operation have its form."""
-    forms = "".join(form for form, _ in line.operands)
-    name = line.operation
+    forms = "".join(it.form for it in operands)
     if name in VALUES:
         return re.fullmatch("v+", forms) is not None
     if name in (".ascii", ".asciiz"):
         return forms == "q"
     if name in (".space", ".align"):
-        return forms == "v" and is_plain_number(line.operands[0])
+        return forms == "v" and is_plain_number(operands[0])
     if name == ".equ":
-        return forms == "vv" and line.operands[0][1].name is not None and not line.operands[0][1].halves and line.operands[0][1].number == 0
+        return forms == "vv" and operands[0].value.name is not None and not operands[0].value.halves and operands[0].value.number == 0
     if name in SECTIONS:
         return forms == ""
     if name in FURTHER:
@@ -220,10 +231,10 @@ class Assembler:
             return
         if not is_instruction(name) and name not in DIRECTIVES:
             raise Fault("UnknownName", line.number)
-        if is_instruction(name) and self.section == DATA or not has_form(line):
+        if is_instruction(name) and self.section == DATA or not has_form(name, line.operands):
             raise Fault("Syntax", line.number)
-        for form, said in line.operands:
-            if form in "rm" and register(said if form == "r" else said[1]) is None:
+        for it in line.operands:
+            if it.form in "rm" and register(it.register) is None:
                 raise Fault("UnknownName", line.number)
 
     def define(self, line: Line, name: str, value: int) -> None:
@@ -244,32 +255,32 @@ class Assembler:
             alignment = 4 if is_instruction(name) else VALUES[name][2] if name in VALUES else 1
             if line.place % alignment:
                 raise Fault("Unaligned", line.number)
-            if name == ".align" and line.operands[0][1].number % MODULUS > MOST_ALIGNMENT:
+            if name == ".align" and line.operands[0].value.number % MODULUS > MOST_ALIGNMENT:
                 raise Fault("OutOfRange", line.number)
-            size = self.sizes[self.section] + self.size_of(line)
+            size = self.sizes[self.section] + self.size_of(name, line)
             if size > SECTION_SIZE:
                 raise Fault("OutOfRange", line.number)
             self.sizes[self.section] = size
 
     def equate(self, line: Line) -> None:
-        name, said = line.operands[0][1].name, line.operands[1][1]
+        name = line.operands[0].value.name
+        assert name is not None, "it has its form"
         if name in self.names:
             raise Fault("Redefined", line.number)
-        value = said.value(self.names)
+        value = line.operands[1].value.value(self.names)
         if value is None:
             raise Fault("Undefined", line.number)
         self.define(line, name, value)
 
-    def size_of(self, line: Line) -> int:
-        name = line.operation
+    def size_of(self, name: str, line: Line) -> int:
         if is_instruction(name):
             return 4 * (FURTHER[name][1] if name in FURTHER else 1)
         if name in VALUES:
             return VALUES[name][2] * len(line.operands)
         if name in (".ascii", ".asciiz"):
-            return len(line.operands[0][1]) + (name == ".asciiz")
-        number = line.operands[0][1].number % MODULUS
-        return number if name == ".space" else -line.place % 2**number
+            return len(line.operands[0].data) + (name == ".asciiz")
+        number = line.operands[0].value.number % MODULUS
+        return number if name == ".space" else -line.place % (1 << number)
 
     def second_pass(self) -> bytes:
         made = {TEXT: b"", DATA: b""}
@@ -294,14 +305,14 @@ class Assembler:
         if name is None or name in SECTIONS or name == ".equ":
             return b"", []
         if name in (".space", ".align"):
-            return bytes(self.size_of(line)), []
+            return bytes(self.size_of(name, line)), []
         if name in (".ascii", ".asciiz"):
-            return line.operands[0][1] + b"\0" * (name == ".asciiz"), []
+            return line.operands[0].data + b"\0" * (name == ".asciiz"), []
         if name in VALUES:
             least, most, size = VALUES[name]
-            found = [self.within(said.value(self.names), least, most) for _, said in line.operands]
+            found = [self.within(it.value.value(self.names), least, most) for it in line.operands]
             return b"".join((value % 256**size).to_bytes(size, "little") for value, _ in found), [fault for _, fault in found if fault]
-        words, faults = self.words_of(line)
+        words, faults = self.words_of(name, line)
         return binary.code(words), faults
 
     def within(self, value: Optional[int], least: int, most: int) -> Tuple[int, str]:
@@ -311,32 +322,32 @@ class Assembler:
         fits = [it for it in (value, value - MODULUS) if least <= it <= most]
         return (fits[0], "") if fits else (0, "OutOfRange")
 
-    def words_of(self, line: Line) -> Tuple[List[int], List[str]]:
-        name, operands = line.operation, line.operands
+    def words_of(self, name: str, line: Line) -> Tuple[List[int], List[str]]:
+        operands = line.operands
         if name in ("li", "la"):
-            to, value = register(operands[0][1]), operands[1][1].value(self.names)
+            to, value = known_register(operands[0].register), operands[1].value.value(self.names)
             number = value or 0
             return [binary.lui(to, number >> 16), binary.ori(to, to, number)], ["Undefined"] * (value is None)
         if name == "nop":
             return [0], []
         if name == "move":
-            name, operands = "addu", [*operands, ("r", "$0")]
+            name, operands = "addu", [*operands, Operand("r", "$0")]
         if name == "b":
-            name, operands = "beq", [("r", "$0"), ("r", "$0"), *operands]
+            name, operands = "beq", [Operand("r", "$0"), Operand("r", "$0"), *operands]
         word, letters = INSTRUCTIONS[name]
         faults: List[str] = []
-        for letter, (_, said) in zip(letters, operands):
-            bits, fault = self.bits_of(letter, said, line.place + 4)
+        for letter, it in zip(letters, operands):
+            bits, fault = self.bits_of(letter, it, line.place + 4)
             word |= bits
             faults += [fault] * bool(fault)
         return [word], faults
 
-    def bits_of(self, letter: str, said: object, behind: int) -> Tuple[int, str]:
+    def bits_of(self, letter: str, said: Operand, behind: int) -> Tuple[int, str]:
         """The bits of an operand in the word before the address `behind`, and its fault or no letters."""
         if letter in FIELDS:
-            return register(said) << FIELDS[letter], ""
+            return known_register(said.register) << FIELDS[letter], ""
+        value = said.value.value(self.names)
         if letter in "bj":
-            value = said.value(self.names)
             if value is None or value % 4:
                 return 0, "Undefined" if value is None else "Unaligned"
             if letter == "j":
@@ -344,12 +355,9 @@ class Assembler:
             distance, fault = self.within((value - behind) % MODULUS, -131072, 131068)
             return distance >> 2 & 0xFFFF, fault
         least, most, shift = RANGES[letter]
-        source = 0
-        if letter == "m":
-            said, base = said
-            source = register(base) << 21
-        value, fault = self.within(said.value(self.names), least, most)
-        return source | (value & (0xFFFF if letter in "ium" else most)) << shift, fault
+        source = known_register(said.register) << 21 if letter == "m" else 0
+        number, fault = self.within(value, least, most)
+        return source | (number & (0xFFFF if letter in "ium" else most)) << shift, fault
 
 
 def assemble(source: bytes) -> bytes:
@@ -359,7 +367,7 @@ def assemble(source: bytes) -> bytes:
     return assembler.second_pass()
 
 
-def listed(elf_segments: list) -> Iterator[str]:
+def listed(elf_segments: Iterable[Segment]) -> Iterator[str]:
     """The lines of a listing of these segments: docs/ASSEMBLER.md, "Listings"."""
     for segment in elf_segments:
         if segment.is_writable:

@@ -8,7 +8,7 @@ from __future__ import annotations
 
 import struct
 from collections import Counter
-from typing import Iterator, List, Optional, Tuple, Union
+from typing import Dict, Iterator, List, Optional, Tuple, Union
 
 from cache import FORWARDED, GUARANTEED, STRIPE, Cache, Refill, hi_word, lo_word
 from files import PAGE, VERSIONS, Image, Program
@@ -36,7 +36,8 @@ class Page:
     """A page of physical memory: who owns it, if anybody, whether it is guaranteed, its words and its bytes."""
 
     def __init__(self) -> None:
-        self.release()
+        self.owner: Optional[Env] = None
+        self.is_guaranteed, self.read, self.write = False, 0, 0
         self.data = bytearray(PAGE)
 
     def release(self) -> None:
@@ -47,7 +48,8 @@ class Claim:
     """A filter, whose it is, the ring page, how many packets came into the ring, and the words of a handler if it has one."""
 
     def __init__(self, number: int, env: Env, filter_: Filter, page: int):
-        self.number, self.env, self.filter, self.page, self.deliveries, self.handler = number, env, filter_, page, 0, ()
+        self.number, self.env, self.filter, self.page, self.deliveries = number, env, filter_, page, 0
+        self.handler: Tuple[int, ...] = ()
 
 
 class Env:
@@ -57,9 +59,12 @@ class Env:
     def __init__(self, number: int, program: Program, stripe_rows: int):
         self.number, self.name, self.life, self.stripe_rows = number, program.name, "live", stripe_rows
         self.cpu, self.handlers, self.mask = Cpu(program.entry), [0] * 5, program.accept
-        self.guaranteed, self.bindings, self.excess = {}, {}, 0
-        self.console, self.sent = bytearray(), []
-        self.outstanding, self.deadline, self.backups = 0, None, []
+        self.guaranteed: Dict[int, Tuple[int, bool]] = {}
+        self.bindings: Dict[int, Tuple[int, int, bool]] = {}
+        self.console, self.excess = bytearray(), 0
+        self.sent: List[bytes] = []
+        self.outstanding, self.deadline = 0, 0
+        self.backups: List[int] = []
 
     @property
     def is_alive(self) -> bool:
@@ -131,14 +136,20 @@ class Board:
     the items that each environment was given, in order."""
 
     def __init__(self, image: Image, keeps_feeds: bool = False):
-        self.version, self.quantum, self.time, self.rows, self.seen = image.version, image.quantum, 0, [], Counter()
+        self.version, self.quantum, self.time = image.version, image.quantum, 0
+        self.rows: List[str] = []
+        self.seen: Counter[object] = Counter()
         self.pages = [Page() for _ in range(image.pages)]
         self.slots = [None if owner is None else (owner, owner) for owner in image.slots]
-        self.slot, self.runner, self.left, self.in_grace = len(self.slots) - 1, None, 0, False
-        self.lines, self.claims, self.next_claim = [None] * LINES, {}, 0
-        self.taken = {}  # by page that was taken in this tick, from whom
-        self.envs, self.cache = [], Cache(len(image.programs))
-        self.feeds = [[] for _ in image.programs] if keeps_feeds else None
+        self.slot, self.left, self.in_grace = len(self.slots) - 1, 0, False
+        self.runner: Optional[Env] = None
+        self.lines: List[Optional[Env]] = [None] * LINES
+        self.claims: Dict[int, Claim] = {}
+        self.next_claim = 0
+        self.taken: Dict[int, Env] = {}  # by page that was taken in this tick, from whom
+        self.envs: List[Env] = []
+        self.cache = Cache(len(image.programs))
+        self.feeds: Optional[List[List[Item]]] = [[] for _ in image.programs] if keeps_feeds else None
         for program in image.programs:
             self.add(program)
         for slot, hold in enumerate(self.slots):
@@ -151,6 +162,7 @@ class Board:
         self.envs.append(env)
         for vpn, is_writable in program.mappings().items():
             number = self.lowest_free()
+            assert number is not None, "an image has a page for each mapping"
             page = self.pages[number]
             page.owner, page.is_guaranteed = env, True
             env.guaranteed[vpn] = number, is_writable
@@ -166,6 +178,23 @@ class Board:
 
     def is_idle(self) -> bool:
         return self.runner is None and not any(self.slots)
+
+    def running(self) -> Env:
+        """Who runs, in a step and at its timer."""
+        assert self.runner is not None, "somebody runs"
+        return self.runner
+
+    def hold(self, slot: int) -> Tuple[int, int]:
+        """The owner and the holder of a slot that isn't empty."""
+        hold = self.slots[slot]
+        assert hold is not None, "the slot isn't empty"
+        return hold
+
+    def owner(self, number: int) -> Env:
+        """Whose a page is that isn't free."""
+        owner = self.pages[number].owner
+        assert owner is not None, "the page isn't free"
+        return owner
 
     # What environments are given
 
@@ -211,12 +240,12 @@ class Board:
 
     def leave_slot(self, slot: int, env: Env) -> None:
         """Its holder lets a slot go: it is empty, or its owner's again."""
-        owner, _ = self.slots[slot]
+        owner, _ = self.hold(slot)
         self.change_slot(slot, None if owner == env.number else (owner, owner))
 
     def stop(self) -> None:
         """Nobody runs any more. Who ran keeps its registers as they stand."""
-        self.row("stop", self.slot, self.runner.number)
+        self.row("stop", self.slot, self.running().number)
         self.runner = None
 
     def start(self, env: Env) -> None:
@@ -321,7 +350,7 @@ class Board:
 
     def free(self, number: int, cause: str = "a free") -> None:
         """A page is free: its bindings go, and the claims whose ring it is; and it is no backup."""
-        owner = self.pages[number].owner
+        owner = self.owner(number)
         if number in owner.backups:
             owner.backups.remove(number)
             self.seen[f"backups that end with {cause}"] += 1
@@ -334,11 +363,11 @@ class Board:
 
     def recap(self, number: int, read: int, write: int) -> None:
         """A page has other words: the bindings of all but its owner go, and no claim does."""
-        page = self.pages[number]
+        page, owner = self.pages[number], self.owner(number)
         page.read, page.write = read, write
-        self.empty_page(number, page.owner, "a recap")
-        self.take_from_sharers(number, page.owner)
-        self.break_bindings(number, but=page.owner)
+        self.empty_page(number, owner, "a recap")
+        self.take_from_sharers(number, owner)
+        self.break_bindings(number, but=owner)
         self.seen["rings that have other words"] += bool(self.claims_on(number))
 
     def bind(self, env: Env, vpn: int, page: int, is_writable: bool) -> None:
@@ -402,7 +431,8 @@ class Board:
     def press(self, env: Env) -> Optional[Env]:
         """No page is free for an environment: of the others the one of which most may be taken is asked for one, the lowest
         number among equals, if nothing is outstanding of it. None where nothing may be taken from any."""
-        most, asked, equals = 0, None, 0
+        asked: Optional[Env] = None
+        most, equals = 0, 0
         for other in self.envs:
             count = 0 if other is env else len(self.revocable(other))
             equals += 0 < count == most

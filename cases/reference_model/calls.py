@@ -5,6 +5,7 @@ It raises Refused for the first cause that holds, or does what is asked and answ
 from __future__ import annotations
 
 import struct
+from typing import Callable, Dict, Tuple
 
 from board import ASYNCHRONOUS, LINES, MOST_SENT, SYNCHRONOUS, Board, Claim, Env
 from files import MOST_PACKET, PAGE
@@ -41,7 +42,8 @@ def read_range(board: Board, env: Env, address: int, length: int) -> bytes:
     """The bytes of a range that lies in one page which the caller sees."""
     refuse_if(address >> 31 or address // PAGE != (address + length - 1) // PAGE, BAD_POINTER)
     seen = env.sees(address // PAGE)
-    refuse_if(seen is None, BAD_POINTER)
+    if seen is None:
+        raise Refused(BAD_POINTER)
     return bytes(board.pages[seen[0]].data[address % PAGE : address % PAGE + length])
 
 
@@ -90,10 +92,11 @@ def put(board: Board, env: Env, address: int, length: int, *_: int) -> int:
 
 def alloc(board: Board, env: Env, number: int, *words: int) -> int:
     if number == ANY:
-        number = board.lowest_free()
-        if number is None:
+        lowest = board.lowest_free()
+        if lowest is None:
             asked = board.press(env) if board.version == 2 else None
             raise Refused(NONE_FREE) if asked is None else Refused(AGAIN, asked.number)
+        number = lowest
     else:
         refuse_if(number >= len(board.pages), NO_PAGE)
         refuse_if(board.pages[number].owner, TAKEN)
@@ -153,7 +156,7 @@ def transfer(board: Board, env: Env, number: int, kind: int, *_: int) -> int:
     refuse_if(not target.accepts(env) or not target.handlers[(ASYNCHRONOUS, SYNCHRONOUS)[kind]], NOT_ACCEPTED)
     board.row(("async", "sync")[kind], board.slot, env.number, target.number)
     if kind == 1:
-        board.change_slot(board.slot, (hold[0], target.number))
+        board.change_slot(board.slot, (board.hold(board.slot)[0], target.number))
     board.enter(target, env, kind)
     return 0
 
@@ -167,7 +170,8 @@ def take_slot(board: Board, env: Env, slot: int, *_: int) -> int:
 
 def drop_slot(board: Board, env: Env, slot: int, *_: int) -> int:
     refuse_if(slot >= len(board.slots), NO_SLICE)
-    refuse_if(not board.slots[slot] or board.slots[slot][1] != env.number, NOT_HOLDER)
+    hold = board.slots[slot]
+    refuse_if(not hold or hold[1] != env.number, NOT_HOLDER)
     board.leave_slot(slot, env)
     return 0
 
@@ -180,7 +184,8 @@ def query(board: Board, env: Env, what: int, index: int, *_: int) -> int:
         return owner.number if owner else ANY
     if what == 6:
         refuse_if(index >= len(board.slots), NO_SLICE)
-        return board.slots[index][1] if board.slots[index] else ANY
+        hold = board.slots[index]
+        return hold[1] if hold else ANY
     if what == 7:
         return env.excess
     if what == 8:
@@ -193,7 +198,8 @@ def query(board: Board, env: Env, what: int, index: int, *_: int) -> int:
 def claim(board: Board, env: Env, address: int, atoms: int, number: int, *_: int) -> int:
     refuse_if(not 1 <= atoms <= MOST_ATOMS, BAD_FILTER)
     filter_ = read_filter(read_range(board, env, address, BYTES_OF_ATOM * atoms))
-    refuse_if(filter_ is None, BAD_FILTER)
+    if filter_ is None:
+        raise Refused(BAD_FILTER)
     check_owned(board, env, number)
     refuse_if(sum(it.env is env for it in board.claims.values()) == MOST_CLAIMS, FULL)
     for other in sorted(it.number for it in board.claims.values() if it.env is not env and it.filter.overlaps(filter_)):
@@ -204,7 +210,8 @@ def claim(board: Board, env: Env, address: int, atoms: int, number: int, *_: int
 def own_claim(board: Board, env: Env, number: int) -> Claim:
     """A claim of the caller's that stands."""
     held = board.claims.get(number)
-    refuse_if(not held or held.env is not env, NO_FILTER)
+    if held is None or held.env is not env:
+        raise Refused(NO_FILTER)
     return held
 
 
@@ -214,7 +221,8 @@ def unclaim(board: Board, env: Env, number: int, *_: int) -> int:
 
 
 def handler(board: Board, env: Env, number: int, address: int, length: int, *_: int) -> int:
-    held, words = own_claim(board, env, number), ()
+    held = own_claim(board, env, number)
+    words: Tuple[int, ...] = ()
     if length > MOST_WORDS:
         raise Refused(BAD_HANDLER, MOST_WORDS)
     if length:
@@ -263,7 +271,7 @@ def clock(board: Board, env: Env, *_: int) -> int:
 
 
 EXIT = 2
-CALLS = {
+CALLS: Dict[int, Callable[..., int]] = {
     0: give_up, 1: put, 3: alloc, 4: free, 5: recap, 6: bind, 7: unbind, 8: context, 9: accept, 10: transfer, 11: take_slot, 12: drop_slot,
     13: query, 14: claim, 15: unclaim, 16: handler, 17: line, 18: backup, 19: send, 20: own_number, 21: clock,
 }

@@ -17,18 +17,19 @@ import subprocess
 import sys
 import tempfile
 from collections import Counter
-from typing import Callable, Dict, List, Optional, Protocol, Tuple, Union
+from typing import Any, Callable, Dict, List, Optional, Protocol, Tuple
 
 from board import Board
 from calls import CALLS
 from files import Event, read_schedule
-from report import answer
+from matching import matched
+from run_report import answer
 from trace import NAMES, Traces
 
 AEGIS = os.environ["AEGIS"]
 
-# What happened: by its name, a packet of a length, or a call's answer.
-Thing = Union[str, Tuple[Union[int, str], int]]
+# What happened: by its name, a packet of a length, or a call's answer, which are pairs.
+Thing = Any
 
 
 class RandomSystem(Protocol):
@@ -115,11 +116,13 @@ def trace_failure(
     for number in range(min(len(board.envs), 31) + 1 if board else 1):
         wanted = (0, traces.text(board, ticks, number)) if board else answered
         found = output("trace", *words, ticks, number)
-        why = differs(wanted, found) or board and number < len(board.envs) and last_line_failure(found[1], answered[1], number, seen)
+        why = differs(wanted, found)
+        if not why and board and number < len(board.envs):
+            why = last_line_failure(wanted[1], answered[1], number, seen)
         if why:
             return f"trace of {number}, {why}"
-        seen["lines of traces"] += found[1].count("\n") - 3
-        seen["lines whose fetch is refused"] += found[1].count(" -------- fetch")
+        seen["lines of traces"] += wanted[1].count("\n") - 3
+        seen["lines whose fetch is refused"] += wanted[1].count(" -------- fetch")
     return ""
 
 
@@ -135,7 +138,7 @@ def last_line_failure(trace: str, report: str, number: int, seen: Counter[Thing]
     if any(tick > int(last.split()[0]) for tick in given):
         return ""
     shown = dict(zip(NAMES, regs[1].split()))
-    shown["hi"], shown["lo"] = re.search(rf"^cpu {number} (?:\S+ ){{3}}(\S+) (\S+)$", report, re.M).groups()
+    shown["hi"], shown["lo"] = matched(rf"^cpu {number} (?:\S+ ){{3}}(\S+) (\S+)$", report, re.M).groups()
     told = re.findall(r" (\$\d+|hi|lo) ([0-9a-f]{8})(?= |$)", last)
     seen["registers of last lines"] += len(told)
     return next((f"{name} is {value} in the last line and {shown[name]} in the report" for name, value in told if shown[name] != value), "")
@@ -143,7 +146,7 @@ def last_line_failure(trace: str, report: str, number: int, seen: Counter[Thing]
 
 def main(
     name: str,
-    system_of: Callable[[int], RandomSystem],
+    system_of: Callable[[int], Any],
     least: Dict[Thing, int],
     seeds: int,
     failure: Callable[..., Optional[str]] = failure,
@@ -158,7 +161,8 @@ def main(
     reader.add_argument("--keep")
     reader.add_argument("--traces", action="store_true", default=traces)
     chosen = reader.parse_args()
-    seen, passed, failed = Counter(), 0, 0
+    seen: Counter[Thing] = Counter()
+    passed = failed = 0
     with tempfile.TemporaryDirectory() as folder:
         for seed in range(chosen.first, chosen.first + chosen.seeds):
             why = failure(chosen.keep or folder, system_of, seed, seen, chosen.traces)

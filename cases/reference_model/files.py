@@ -5,7 +5,7 @@ import os
 import struct
 import sys
 from dataclasses import dataclass
-from typing import Dict, Iterator, List, Optional, Tuple
+from typing import Dict, Iterator, List, Optional, Sequence, Tuple
 
 ROOT = os.path.join(os.path.dirname(os.path.realpath(__file__)), "..", "..")
 sys.path += [f"{ROOT}/tools", f"{ROOT}/cases"]
@@ -45,7 +45,7 @@ class Program:
     stack: int
     accept: int
     entry: int
-    segments: list
+    segments: List[Segment]
 
     def mappings(self) -> Dict[int, bool]:
         """The VPNs of its guaranteed pages, rising, and whether each may be stored to."""
@@ -65,8 +65,8 @@ class Image:
     version: int
     pages: int
     quantum: int
-    slots: list
-    programs: list
+    slots: List[Optional[int]]
+    programs: List[Program]
 
 
 @dataclass
@@ -74,9 +74,9 @@ class Event:
     """What happens at the beginning of a tick: a packet, a signal on a line, or a revocation, which is (environment, count, grace)."""
 
     tick: int
-    packet: bytes = None
-    line: int = None
-    revoke: tuple = None
+    packet: Optional[bytes] = None
+    line: int = 0
+    revoke: Optional[Tuple[int, int, int]] = None
 
 
 def number_at(file: bytes, place: int, size: int) -> int:
@@ -89,9 +89,9 @@ def read_image(file: bytes) -> Image:
     version = next((number for number, magic in MAGIC.items() if file[:4] == magic), None)
     if version is None:
         raise Fault("Magic", 0)
-    most = VERSIONS[version]
-    limits = (("Pages", 4, 4, LEAST_PAGES, most.most_pages), ("Quantum", 8, 4, LEAST_QUANTUM, MOST_QUANTUM),
-              ("Envs", 12, 2, 1, most.most_environments), ("Slots", 14, 2, 1, MOST_SLOTS))
+    limit = VERSIONS[version]
+    limits = (("Pages", 4, 4, LEAST_PAGES, limit.most_pages), ("Quantum", 8, 4, LEAST_QUANTUM, MOST_QUANTUM),
+              ("Envs", 12, 2, 1, limit.most_environments), ("Slots", 14, 2, 1, MOST_SLOTS))
     for why, place, size, least, most in limits:
         if not least <= number_at(file, place, size) <= most:
             raise Fault(why, place)
@@ -169,7 +169,7 @@ def read_elf(file: bytes) -> Tuple[int, List[Segment]]:
         raise Fault("BadHeaders", 44)
     if first + 32 * count > len(file):
         raise Fault("BadHeaders", 28)
-    segments = []
+    segments: List[Segment] = []
     for header in range(first, first + 32 * count, 32):
         kind, offset, address, _, in_file, size, flags = struct.unpack_from("<7I", file, header)
         if kind in (2, 3):
@@ -221,7 +221,7 @@ def number_of(word: bytes) -> Optional[int]:
 
 def read_schedule(text: bytes) -> List[Event]:
     """The events of a schedule, in order."""
-    events = []
+    events: List[Event] = []
     for line, content in lines_of(text):
         if words := words_of(line, content):
             event = read_event(line, words)
@@ -244,13 +244,13 @@ class Manifest:
     version: int
     pages: int
     quantum: int
-    slots: list
-    entries: list
+    slots: List[Optional[int]]
+    entries: List[Tuple[str, Optional[int], int, int, bytes]]
 
 
 def read_manifest(text: bytes) -> Manifest:
     """What a manifest says, and its first line with a fault."""
-    said, awaited, last = Manifest(1, None, None, None, []), 0, 0
+    said, awaited, last = Manifest(1, 0, 0, [], []), 0, 0
     for line, content in lines_of(text):
         last = line
         words = words_of(line, content)
@@ -321,10 +321,29 @@ def read_event(line: int, words: List[bytes]) -> Event:
     if words[1] == b"line":
         return Event(tick, line=ranged(words[2], MOST_LINE))
     if words[1] == b"revoke":
-        return Event(tick, revoke=tuple(ranged(word, most) for word, most in zip(words[2:], (MOST_TARGET, MOST_ASKED, MOST_RUN_TICKS))))
+        target, count, grace = (ranged(word, most) for word, most in zip(words[2:], (MOST_TARGET, MOST_ASKED, MOST_RUN_TICKS)))
+        return Event(tick, revoke=(target, count, grace))
     if len(words[2]) % 2 or any(digit not in b"0123456789abcdefABCDEF" for digit in words[2]):
         raise Fault("Hex", line)
     packet = bytes.fromhex(words[2].decode())
     if len(packet) > MOST_PACKET:
         raise Fault("Range", line)
     return Event(tick, packet=packet)
+
+
+class Refusal(Exception):
+    """What a command says of the first of its files that has a fault."""
+
+
+def read_systems(files: Sequence[Tuple[str, bytes]]) -> List[Tuple[Image, List[Event]]]:
+    """The images with their schedules, of files (name, bytes) in the order of a command's words."""
+    images, schedules = [], []
+    for place, (name, content) in enumerate(files):
+        try:
+            if place % 2:
+                schedules.append(read_schedule(content))
+            else:
+                images.append(read_image(content))
+        except Fault as fault:
+            raise Refusal(f"aegis: {name}: {fault}\n") from None
+    return list(zip(images, schedules))

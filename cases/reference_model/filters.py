@@ -50,7 +50,7 @@ def is_good(atom: Atom) -> bool:
 
 def read_filter(data: bytes) -> Optional[Filter]:
     """The filter that stands in memory as these bytes, or None."""
-    atoms = []
+    atoms: List[Atom] = []
     for place in range(0, len(data), BYTES_OF_ATOM):
         offset, width, mask, value = struct.unpack_from("<HHII", data, place)
         atom = Atom(offset, width, mask, value)

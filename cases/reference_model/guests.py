@@ -21,13 +21,13 @@ import os
 import random
 import struct
 import sys
-from typing import Iterable, List, Sequence, Tuple, Union
+from typing import Iterable, List, Sequence, Tuple, Type, Union
 
 CASES = os.path.dirname(os.path.dirname(os.path.abspath(__file__)))
 sys.path += [CASES, f"{CASES}/random_systems"]
 import binary
 from systems import (A0, A1, ALLOC, ANY, AREA, BASE, BIND, CONTEXTS, COUNTER, EXCEPTIONS, EXIT, FREE, NOP, OPCODES, PAGE, PAGES, POINTER, PUT, ROUNDS,
-                     SCRATCH, SYSCALL, V0, V1, ZERO, Program, addiu, immediate, ori, register)
+                     SCRATCH, SYSCALL, V0, V1, ZERO, Blocks, Program, addiu, immediate, ori, register)
 
 from handler_words import Handlers
 
@@ -49,7 +49,8 @@ class Traffic:
     """The filters for which the environments of a system may ask, and packets."""
 
     def __init__(self, chance: random.Random):
-        self.chance, self.filters = chance, []
+        self.chance = chance
+        self.filters: List[List[Tuple[int, ...]]] = []
 
     def filter_of(self, number: int) -> List[Tuple[int, ...]]:
         """A filter of an environment, as a list of atoms (offset, width, mask, value)."""
@@ -84,7 +85,7 @@ class Traffic:
         """Atoms that are no filter."""
         atoms = [(0, 1, 0xFF, number), *self.more()][:15]
         offset, width, mask, value = atoms[-1]
-        atoms[-1:] = self.chance.choice((
+        ends: Tuple[List[Tuple[int, ...]], ...] = (
             [(offset, 3, mask, value)],
             [(offset, 0, 0, 0)],
             [(LONGEST - 1, 2, 0xFFFF, 1)],
@@ -93,7 +94,8 @@ class Traffic:
             [(offset, 2, 0xFFFF, 0x10000)],
             [(offset, width, 0, 1)],
             [atoms[-1], (0, 2, 0x0100, ~number << 8 & 0x100)],
-        ))
+        )
+        atoms[-1:] = self.chance.choice(ends)
         return atoms
 
     def length(self) -> int:
@@ -122,13 +124,16 @@ class Traffic:
 class Guest(Program):
     """A program with a page of code and a page of data, in which its filters stand."""
 
-    MAKES = Handlers
+    MAKES: Type[Handlers] = Handlers
 
     def __init__(self, chance: random.Random, system: System, number: int):
         super().__init__(chance, system, number)
-        self.traffic, self.rings, self.ring_pages = system.traffic, [], []
+        self.traffic = system.traffic
+        self.rings: List[int] = []
+        self.ring_pages: List[int] = []
         self.data = bytearray(chance.randbytes(PAGE))
-        self.filters, place = [], DATA
+        self.filters: List[Tuple[int, int]] = []
+        place = DATA
         for _ in range(chance.randrange(2, 6)):
             atoms = self.traffic.filter_of(number) if chance.random() < 0.9 else self.traffic.bad_filter_of(number)
             place += chance.choice((0, 0, 1, 2))
@@ -136,7 +141,8 @@ class Guest(Program):
             self.filters.append((place, len(atoms)))
             place += 12 * len(atoms)
         self.keep(LOOP_FILTER, atoms_in_memory(((0, 1, 0xFF, number), (1, 1, 0xFF, 0))))
-        self.handlers, place = [], HANDLERS
+        self.handlers: List[Tuple[int, int]] = []
+        place = HANDLERS
         makes = self.MAKES(chance)
         while place < LOOP_FILTER - 0x100:
             words = makes.words() if self.handlers else makes.loud()
@@ -165,7 +171,7 @@ class Guest(Program):
 
     def claim(self) -> None:
         """A claim, whose number is kept where it was granted; the page is mostly bound too."""
-        page = self.ring_page() if self.chance.random() < 0.9 else self.page_number()
+        page: Union[List[int], int] = self.ring_page() if self.chance.random() < 0.9 else self.page_number()
         self.claim_with(page)
         if isinstance(page, list) and self.chance.random() < 0.5:
             self.bind_ring(page)
@@ -196,7 +202,7 @@ class Guest(Program):
             address, length = self.chance.choice((DATA + PAGE - 8, 0x10000000, 0x80000000, ANY)), self.chance.choice((3, 64))
         elif kind < 0.26:
             length = max(1, length - 1)
-        self.call(HANDLER, [CLAIMED] if self.chance.random() < 0.9 else self.chance.choice((*range(10), ANY)), address, length)
+        self.call(HANDLER, self.claimed(0.9), address, length)
 
     def fill_up(self) -> None:
         """Sends as many packets as are held but a few, and has a handler reply more."""
@@ -248,7 +254,13 @@ class Guest(Program):
         self.branch_back(5, COUNTER, ZERO, start)
 
     def unclaim(self) -> None:
-        self.call(UNCLAIM, [CLAIMED] if self.chance.random() < 0.7 else self.chance.choice((*range(10), ANY)))
+        self.call(UNCLAIM, self.claimed(0.7))
+
+    def claimed(self, often: float) -> Union[List[int], int]:
+        """The register with the number of a claim that was granted, this often, or any number."""
+        if self.chance.random() < often:
+            return [CLAIMED]
+        return self.chance.choice((*range(10), ANY))
 
     def ring(self) -> int:
         """The address of a buffer of a ring, or of some page."""
@@ -394,11 +406,11 @@ class Guest(Program):
         """Calls that there aren't, with arguments that would make sense."""
         self.call(self.chance.choice((22, 23, 0x10010)), [CLAIMED] if self.chance.random() < 0.5 else self.held(), PACKETS, 4)
 
-    BLOCKS = (*Program.BLOCKS, (claim, 10), (claim_bound, 2), (nine, 0.7), (unclaim, 3), (handle_packets, 6), (drain, 10), (empty, 6), (meddle, 14), (look, 3),
-              (line, 9), (send, 5), (flood, 0.5), (hoard, 6), (load, 6), (load_many, 2), (give_back, 7), (recover, 6), (count_anew, 2), (grab, 4),
+    BLOCKS: Blocks = (*Program.BLOCKS, (claim, 10), (claim_bound, 2), (nine, 0.7), (unclaim, 3), (handle_packets, 6), (drain, 10), (empty, 6), (meddle, 14),
+              (look, 3), (line, 9), (send, 5), (flood, 0.5), (hoard, 6), (load, 6), (load_many, 2), (give_back, 7), (recover, 6), (count_anew, 2), (grab, 4),
               (unknown, 1), (Program.wait, 3))
 
-    def made(self) -> Tuple[bytes, bytes]:
+    def code_and_data(self) -> Tuple[bytes, bytes]:
         """The bytes of the code, and those of the data."""
         if self.has_handler:
             self.handle(EXCEPTIONS)
@@ -441,7 +453,7 @@ def elf_file(chance: random.Random, code: bytes, data: bytes, is_read_only: bool
 class System:
     """An image of random programs, whose version is 1 for an even seed, and a schedule."""
 
-    GUEST = Guest
+    GUEST: Type[Guest] = Guest
 
     def __init__(self, seed: int):
         self.version = 1 + seed % 2
@@ -456,7 +468,8 @@ class System:
         self.slots += [chance.choice((*range(count), 255)) for _ in range(chance.randrange(4))]
         chance.shuffle(self.slots)
         self.quantum, self.ticks = chance.randrange(16, 100), self.duration()
-        self.traffic, self.revokes, self.deadlines = self.new_traffic(), chance.choice((0, 0, 0.1, 0.3, 0.5)), []
+        self.traffic, self.revokes = self.new_traffic(), chance.choice((0, 0, 0.1, 0.3, 0.5))
+        self.deadlines: List[int] = []
         programs = [self.program(environment, stack) for environment, stack in enumerate(stacks)]
         self.image = binary.image(self.pages, self.quantum, self.slots, programs, self.version)
         self.schedule = self.text_of(self.events())
@@ -486,7 +499,7 @@ class System:
 
     def program(self, environment: int, stack: int) -> binary.Program:
         chance, guest = self.chance, self.GUEST(self.chance, self, environment)
-        code, data = guest.made()
+        code, data = guest.code_and_data()
         is_elf = chance.random() < 0.25
         if is_elf:
             body = elf_file(chance, code, data, guest.has_handler and chance.random() < 0.5)
@@ -496,7 +509,8 @@ class System:
 
     def events(self) -> List[Tuple[int, str]]:
         """By rising tick, what a line says behind it."""
-        chance, times = self.chance, []
+        chance = self.chance
+        times: List[int] = []
         for _ in range(chance.choice((0, 4, 20, 40, 80))):
             kind = chance.random()
             if kind < 0.2 and times:

@@ -1,7 +1,7 @@
 """Handlers of packets: docs/KERNEL.md, "Handlers of packets". The machine's own steps over a memory of a handler's own."""
 from __future__ import annotations
 
-from typing import Optional, Sequence
+from typing import List, Optional, Sequence
 
 from files import MOST_PACKET, PAGE
 from machine import ADEL, ADES, BP, Cpu, KernelCall, Trap, decode, reserved, step
@@ -79,10 +79,11 @@ class Run:
     """A run of a handler over a packet and the ring page: how it ended, and its replies. What it stored is in the page."""
 
     def __init__(self, words: Sequence[int], packet: bytes, claim: int, page: bytearray):
-        self.memory, self.replies, self.cpu = HandlerMemory(words, packet, page), [], Cpu(0)
+        self.memory, self.cpu = HandlerMemory(words, packet, page), Cpu(0)
+        self.replies: List[bytes] = []
         self.cpu.regs = [0] * 32
         self.cpu.regs[LENGTH], self.cpu.regs[CLAIM] = len(packet), claim
-        self.why = None  # of a fault
+        self.why = ""  # of a fault
         while not self.why and self.step():
             pass
         self.end = FAULT if self.why else DONE

@@ -2,7 +2,7 @@
 from __future__ import annotations
 
 from functools import lru_cache
-from typing import Callable, Optional, Protocol, Tuple
+from typing import Callable, Dict, Optional, Protocol, Tuple
 
 WORD, SIGN = 0xFFFFFFFF, 0x80000000
 MOD, TLBL, TLBS, ADEL, ADES, SYS, BP, RI, CPU, OV = 1, 2, 3, 4, 5, 8, 9, 10, 11, 12
@@ -233,7 +233,7 @@ def branch_of_one(cpu: Cpu, it: Instruction, memory: Bus) -> Optional[int]:
 
 
 def syscall(cpu: Cpu, it: Instruction, memory: Bus) -> None:
-    raise Trap(SYS) if cpu.slot else KernelCall
+    raise Trap(SYS) if cpu.slot else KernelCall()
 
 
 def breakpoint_(cpu: Cpu, it: Instruction, memory: Bus) -> None:
@@ -299,7 +299,7 @@ def swr(cpu: Cpu, it: Instruction, memory: Bus) -> None:
 
 # By function of opcode 0: the effect, whether it jumps, and the bits that have to be 0.
 RS, RT, RD, SHIFT = 31 << 21, 31 << 16, 31 << 11, 31 << 6
-FUNCTIONS = {
+FUNCTIONS: Dict[int, Tuple[Effect, bool, int]] = {
     **{function: (shift, False, RS) for function in (0, 2, 3)},
     **{function: (shift_by_register, False, SHIFT) for function in (4, 6, 7)},
     8: (jr, True, RT | RD | SHIFT),
@@ -315,7 +315,7 @@ FUNCTIONS = {
 }
 
 # The same by opcode.
-OPCODES = {
+OPCODES: Dict[int, Tuple[Effect, bool, int]] = {
     **{opcode: (jump, True, 0) for opcode in (2, 3)},
     **{opcode: (branch, True, 0) for opcode in (4, 5)},
     **{opcode: (branch, True, RT) for opcode in (6, 7)},

@@ -47,7 +47,7 @@ def begin_tick(board: Board) -> None:
 
 def finish_tick(board: Board) -> None:
     """The step, the timer and the time."""
-    make_step(board, board.runner)
+    make_step(board, board.running())
     if board.runner:
         count(board)
     board.time += 1
@@ -63,9 +63,10 @@ def take_turn(board: Board) -> None:
     """The next held slot whose holder owes nothing has its turn, and each before it is forfeited."""
     while True:
         board.slot = (board.slot + 1) % len(board.slots)
-        if board.slots[board.slot] is None:
+        hold = board.slots[board.slot]
+        if hold is None:
             continue
-        env = board.envs[board.slots[board.slot][1]]
+        env = board.envs[hold[1]]
         if env.excess == 0:
             break
         env.excess -= 1
@@ -78,7 +79,8 @@ def take_turn(board: Board) -> None:
 def make_step(board: Board, env: Env) -> None:
     """The step is attempted from its fetch on until it misses no row of a mapping."""
     board.give(env, "step")
-    pc, in_slot, refills = env.cpu.pc, env.cpu.slot, []
+    pc, in_slot = env.cpu.pc, env.cpu.slot
+    refills: List[Refill] = []
     while True:
         end = attempt(board, env)
         if not isinstance(end, Refill):
@@ -89,7 +91,7 @@ def make_step(board: Board, env: Env) -> None:
 
 def attempt(board: Board, env: Env) -> Optional[Exception]:
     """An attempt of a step, behind which Random falls, and what it leads to. Answers how it ended, if it didn't retire."""
-    end = None
+    end: Optional[Exception] = None
     try:
         step(env.cpu, Memory(board, env))
     except (Refill, KernelCall, Trap) as it:
@@ -119,7 +121,7 @@ def count(board: Board) -> None:
     board.left -= 1
     if board.left:
         return
-    env = board.runner
+    env = board.running()
     if not board.in_grace and not env.handlers[ENDS]:
         board.stop()
         return

@@ -5,7 +5,7 @@ import sys
 from typing import Optional, Sequence, Tuple
 
 from board import Board
-from report import answer, end_line
+from run_report import answer, end_line
 
 
 def tlb_text(board: Board, ticks: int) -> str:

@@ -7,7 +7,7 @@ from typing import Dict, List
 from board import Board, Env, word_of
 from files import PAGE
 from listing import text_of_word
-from report import answer, end_line
+from run_report import answer, end_line
 from ticks import finish_tick
 
 NAMES = [f"${number}" for number in range(1, 32)] + ["hi", "lo"]
@@ -36,7 +36,7 @@ class Traces:
 
     def finish(self, board: Board) -> None:
         """The step of a tick, and what stands in a line after it."""
-        env = board.runner
+        env = board.running()
         before = values(env)
         line = f"{board.time} {env.cpu.pc:08x} {instruction(board, env)}"
         finish_tick(board)

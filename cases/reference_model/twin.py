@@ -9,11 +9,11 @@ from __future__ import annotations
 import sys
 from collections import deque
 from hashlib import sha256
-from typing import List, NamedTuple, Optional, Sequence, Set, Tuple, Union
+from typing import Callable, Dict, List, NamedTuple, Optional, Sequence, Set, Tuple
 
 from board import Board, Item
-from files import MOST_RUN_TICKS, Event, Fault, Image, read_image, read_schedule
-from report import DONE, REFUSED, env_lines
+from files import MOST_RUN_TICKS, Event, Image, Refusal, read_systems
+from run_report import DONE, REFUSED, env_lines
 from ticks import happen_now, tick
 
 FOUND = 1
@@ -36,17 +36,22 @@ class Side:
         self.ends: List[List[End]] = [[] for _ in self.board.envs]
         self.begun: Set[int] = set()  # who has a slice that hasn't ended
 
+    def feeds(self) -> List[List[Item]]:
+        """What each environment was given so far."""
+        assert self.board.feeds is not None, "this board keeps them"
+        return self.board.feeds
+
     def tick(self) -> None:
         """Makes a tick. A slice ends in the first tick behind which its environment doesn't run."""
-        board, before = self.board, list(map(len, self.board.feeds))
+        board, before = self.board, list(map(len, self.feeds()))
         happen_now(board, self.coming)
         tick(board)
-        for number, feed in enumerate(board.feeds):
+        for number, feed in enumerate(self.feeds()):
             if any(item[0] in BEGINNINGS for item in feed[before[number]:]):
                 self.begun.add(number)
         for number in self.begun - ({board.runner.number} if board.runner else set()):
             self.begun.remove(number)
-            self.ends[number].append(End(board.time, len(board.feeds[number]), self.text(number)))
+            self.ends[number].append(End(board.time, len(self.feeds()[number]), self.text(number)))
 
     def run(self, ticks: int) -> Side:
         """Goes on to so many ticks, or until the board is idle."""
@@ -69,7 +74,7 @@ class Side:
 
     def feed_to(self, number: int, slices: int) -> List[Item]:
         """What an environment was given up to the end of so many slices."""
-        return self.board.feeds[number][: self.ends[number][slices - 1].items]
+        return self.feeds()[number][: self.ends[number][slices - 1].items]
 
     def text(self, number: int) -> str:
         """The lines that a report has of an environment."""
@@ -81,11 +86,11 @@ def digest(data: bytes) -> str:
 
 
 # The words behind the name of an item's kind.
-WORDS = {
+WORDS: Dict[object, Callable[..., Tuple[object, ...]]] = {
     "boot": lambda version, record: (digest(record),),
-    "step": tuple,
-    "start": tuple,
-    "end": tuple,
+    "step": lambda: (),
+    "start": lambda: (),
+    "end": lambda: (),
     "transfer": lambda caller, kind, registers: (caller, kind, digest(registers)),
     "killed": lambda: ("excess",),
     "answer": lambda code, value: (code, value),
@@ -127,14 +132,11 @@ def compared(left: Side, right: Side, number: int, slices: int) -> Tuple[int, st
 
 def twin_answer(files: Sequence[Tuple[str, bytes]], number: int, slices: int) -> Tuple[int, str]:
     """The status and the text of `twin IMAGE SCHEDULE IMAGE SCHEDULE ENV N`; files are (name, bytes), in the order of the words."""
-    read: List[Union[Image, List[Event]]] = []
-    for (name, content), reader in zip(files, (read_image, read_schedule) * 2):
-        try:
-            read.append(reader(content))
-        except Fault as fault:
-            return REFUSED, f"aegis: {name}: {fault}\n"
-    sides = [Side(*read[place : place + 2]).reach(number, slices) for place in (0, 2)]
-    return compared(*sides, number, slices)
+    try:
+        left, right = (Side(*system).reach(number, slices) for system in read_systems(files))
+    except Refusal as why:
+        return REFUSED, str(why)
+    return compared(left, right, number, slices)
 
 
 def main() -> None:

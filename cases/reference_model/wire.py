@@ -7,11 +7,11 @@ import sys
 from collections import deque
 from dataclasses import dataclass
 from itertools import chain
-from typing import Iterator, List, Optional, Tuple
+from typing import Deque, Iterator, List, Optional, Tuple
 
 from board import Board
-from files import Event, Fault, Image, read_image, read_schedule
-from report import DONE, REFUSED, report_lines
+from files import Event, Image, Refusal, read_systems
+from run_report import DONE, REFUSED, report_lines
 from ticks import happen_now, tick
 
 RECEIVER, ALL_OTHERS = 5, 0xFF  # the byte of a packet that names the machine, and the number for all of them
@@ -32,10 +32,11 @@ class Wire:
     """Machines, each with the events of its schedule that are still to come, and all packets that were sent so far."""
 
     def __init__(self, images: List[Image], schedules: List[List[Event]], delay: int):
-        self.boards, self.delay, self.packets = [Board(image) for image in images], delay, []
+        self.boards, self.delay = [Board(image) for image in images], delay
+        self.packets: List[Packet] = []
         self.schedules, self.coming = schedules, [deque(events) for events in schedules]
-        self.arrivals = [[] for _ in images]  # by machine, those that are due before its own end or behind it
-        self.due = [deque() for _ in images]  # of these, those that are still to come
+        self.arrivals: List[List[Event]] = [[] for _ in images]  # by machine, those that are due before its own end or behind it
+        self.due: List[Deque[Event]] = [deque() for _ in images]  # of these, those that are still to come
         self.counts = [[0] * len(board.envs) for board in self.boards]  # of the packets of each environment that are on the wire
 
     def run(self, ticks: int) -> None:
@@ -92,13 +93,11 @@ def wire_lines(wire: Wire, ticks: int) -> Iterator[str]:
 
 def answer(pairs: List[Tuple[File, File]], delay: int, ticks: int) -> Tuple[int, str, Optional[Wire]]:
     """The status and the text of `wire DELAY TICKS (IMAGE SCHEDULE) ..`, and the wire if there is one; each pair is of two files."""
-    read = []
-    for (name, content), reader in zip(chain.from_iterable(pairs), (read_image, read_schedule) * len(pairs)):
-        try:
-            read.append(reader(content))
-        except Fault as fault:
-            return REFUSED, f"aegis: {name}: {fault}\n", None
-    wire = Wire(read[::2], read[1::2], delay)
+    try:
+        systems = read_systems(list(chain.from_iterable(pairs)))
+    except Refusal as why:
+        return REFUSED, str(why), None
+    wire = Wire([image for image, _ in systems], [events for _, events in systems], delay)
     wire.run(ticks)
     return DONE, "".join(f"{line}\n" for line in wire_lines(wire, ticks)), wire
 

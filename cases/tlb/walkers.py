@@ -9,6 +9,7 @@ from __future__ import annotations
 import os
 import random
 import sys
+from typing import Any, Tuple
 
 sys.path.append(os.path.join(os.path.dirname(os.path.dirname(os.path.realpath(__file__))), "reference_model"))
 import guests  # which finds `binary` and `systems`
@@ -83,7 +84,8 @@ class Walker(guests.Guest):
             self.load_number(POINTER, vpn * PAGE)
             self.add(immediate(OPCODES["sw"], POINTER, VALUE, 0))
         self.wait()
-        ends = (FREE, [page]), (FREE, [page]), (RECAP, [page], 5, 0, 9, 0), (RECAP, [page], 5, 0, 9, 0), (UNBIND, vpn), (EXIT, 0), (OWN_NUMBER,)
+        recap = (RECAP, [page], 5, 0, 9, 0)
+        ends: Tuple[Tuple[Any, ...], ...] = (FREE, [page]), (FREE, [page]), recap, recap, (UNBIND, vpn), (EXIT, 0), (OWN_NUMBER,)
         self.call(*self.chance.choice(ends))
 
     BLOCKS = (*guests.Guest.BLOCKS, (walk, 30), (bind_in_turn, 5), (share, 40), (show, 30))
@@ -110,6 +112,6 @@ class System(guests.System):
         pages = self.arrays[environment]
         if not pages:
             return super().program(environment, stack)
-        code, data = self.GUEST(self.chance, self, environment).made()
+        code, data = self.GUEST(self.chance, self, environment).code_and_data()
         segments = binary.Segment(BASE, code.ljust(PAGE, b"\0") + data, 7), binary.Segment(ARRAY, b"", self.chance.choice((4, 6, 6)), PAGE * pages)
         return binary.Program(f"e{environment}", binary.elf(BASE, segments), 0, stack, self.mask(), True)

@@ -13,7 +13,7 @@ from calls import EXIT
 from files import PAGE, VERSIONS
 from handlers import Run
 from machine import ADEL, ADES, MOD, TLBL, TLBS, WORD, Cpu, KernelCall, Trap, step
-from report import text_of
+from run_report import text_of
 
 ALLOC, PUT, BIND, UNBIND, CONTEXT, ACCEPT, CLAIM, UNCLAIM, HANDLER, SEND = 3, 1, 6, 7, 8, 9, 14, 15, 16, 19
 ASYNCHRONOUS = 3
@@ -23,7 +23,8 @@ class Ring:
     """A claim of its own: the page, how many packets came into its buffers, and the words of its handler."""
 
     def __init__(self, page: int):
-        self.page, self.deliveries, self.handler = page, 0, ()
+        self.page, self.deliveries = page, 0
+        self.handler: Tuple[int, ...] = ()
 
 
 class Binding(NamedTuple):
@@ -36,7 +37,8 @@ class Alone:
     """What an environment makes of the items that it is given."""
 
     def __init__(self, feed: Sequence[Item]):
-        self.life, self.handlers, self.console, self.sent = "live", [0] * 5, bytearray(), []
+        self.life, self.handlers, self.console = "live", [0] * 5, bytearray()
+        self.sent: List[bytes] = []
         self.kept: Dict[int, Tuple[bytearray, bool]] = {}
         self.seen: Dict[int, bytearray] = {}  # by number, the pages that it owns or has bound
         self.owned: Set[int] = set()
@@ -44,7 +46,7 @@ class Alone:
         self.rings: Dict[int, Ring] = {}
         for kind, *what in feed:
             if self.life == "live":
-                getattr(self, kind)(*what)
+                getattr(self, str(kind))(*what)
 
     # Its memory, as its own steps see it
 
@@ -76,7 +78,7 @@ class Alone:
     def range(self, address: int, length: int) -> bytes:
         """Bytes that a granted call names."""
         data, _ = self.mapped(address // PAGE)
-        return bytes(data[address % PAGE : address % PAGE + length]) if length else b""
+        return bytes(data[address % PAGE : address % PAGE + length]) if data and length else b""
 
     def set_context(self, place: int, *words: int) -> None:
         struct.pack_into(f"<{len(words)}I", self.kept[CONTEXT_VPN][0], place, *words)

@@ -90,7 +90,7 @@ class Quiet(Guest):
             self.call(YIELD, ANY)
         self.add(register(8, RESUME, 0, 0), register(37, OLD, ZERO, K0))
 
-    def made(self) -> Tuple[bytes, bytes]:
+    def code_and_data(self) -> Tuple[bytes, bytes]:
         kinds = [kind for kind in (STARTS, ENDS) if kind in self.hears]
         for kind in [EXCEPTIONS] * self.has_handler + kinds:
             self.handle(kind)
@@ -113,7 +113,7 @@ class Quiet(Guest):
 
 def quiet_program(chance: random.Random, system: System, number: int) -> bytes:
     """A part of an image: a quiet program that accepts nobody."""
-    code, data = Quiet(chance, system, number).made()
+    code, data = Quiet(chance, system, number).code_and_data()
     content = code.ljust(PAGE, b"\0") + data
     return struct.pack(PROGRAM, f"e{number}".encode(), BASE, 0, 0, 0, len(content)) + content
 

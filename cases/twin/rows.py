@@ -118,7 +118,8 @@ def records() -> Iterator[Row]:
     elves = [binary.elf(entry, [binary.Segment(BASE, body([NOP, *COUNT]))]) for entry in (BASE, BASE + 4)]
     pages = struct.pack("<II", 1, 1) + bytes(PAGE) + struct.pack("<II", 2, 0) + body([NOP, *COUNT]).ljust(PAGE, b"\0")
     entries = [sha(b"\0a" + bytes(7) + struct.pack("<II", entry, 0) + pages) for entry in (BASE, BASE + 4)]
-    yield pair("entries", *(binary.image(64, 16, [0], [binary.Program("a", it, is_elf=True)]) for it in elves), *entries)
+    left, right = (binary.image(64, 16, [0], [binary.Program("a", it, is_elf=True)]) for it in elves)
+    yield pair("entries", left, right, *entries)
 
 
 # --- Slices ----------------------------------------------------------------------------------------------------
@@ -201,9 +202,9 @@ def shared_pages() -> Iterator[Row]:
     yield Row("a half word", run(*half), one, 2, FOUND, differ(36, "left 10 6 0100", "left 10 0 01000000"))
     part = [number(10, 0x201), lui(9, 0x50), binary.immediate(42, 9, 10, 5)]  # SWL: the two high bytes, up to the address
     yield Row("a part of a word", run(*part), one, 2, FOUND, differ(36, "left 10 4 0000", "left 10 0 01000000"))
-    written = [run(before=stores(value)) for value in (1, 2)]
+    left, right = (run(before=stores(value)) for value in (1, 2))
     pages = [sha(word(value) + bytes(PAGE - 4)) for value in (1, 2)]
-    yield Row("a page with other bytes", *written, 1, FOUND, differ(10, *(f"gained 10 r {it}" for it in pages)))
+    yield Row("a page with other bytes", left, right, 1, FOUND, differ(10, *(f"gained 10 r {it}" for it in pages)))
     none = run()
     for name, breaks in (("a recap", call(RECAP, 10, 1, 0, 1, 0)), ("a free", call(FREE, 10)), ("a death", call(EXIT, 0))):
         yield Row(f"a page that is lost by {name}", run(*breaks), none, 2, FOUND, differ(36, "lost 10", "start"))
@@ -238,19 +239,19 @@ def packets() -> Iterator[Row]:
     one, two, none = (Run(image, f"20 packet {it}\n" if it else "") for it in ("aa", "bb01", ""))
     yield Row("a packet", one, two, 1, FOUND, differ(25, "packet 0 aa", "packet 0 bb01"))
     yield Row("no packet", none, two, 1, FOUND, differ(25, "step", "packet 0 bb01"))
-    full = [Run(image, f"2{at} packet aa\n" * 2 + f"2{at} packet {it}\n") for at, it in ((0, "cc"), (0, "dd"))]
-    yield Row("packets that are lost", *full, 1, FOUND, differ(27, "packet 0 cc", "packet 0 dd"))
+    left, right = (Run(image, f"2{at} packet aa\n" * 2 + f"2{at} packet {it}\n") for at, it in ((0, "cc"), (0, "dd")))
+    yield Row("packets that are lost", left, right, 1, FOUND, differ(27, "packet 0 cc", "packet 0 dd"))
     line = machine([*call(LINE, 3, 1), *SPIN], quantum=32)
     yield Row("a signal", Run(line, "20 line 3\n"), Run(line, "20 line 2\n"), 1, FOUND, differ(23, "line 3", "step"))
-    asked = [Run(machine(COUNT, quantum=32), f"20 revoke 0 {count} 500\n") for count in (1, 2)]
-    yield Row("a revocation", *asked, 1, FOUND, differ(22, "asked 1 520", "asked 2 520"))
+    left, right = (Run(machine(COUNT, quantum=32), f"20 revoke 0 {count} 500\n") for count in (1, 2))
+    yield Row("a revocation", left, right, 1, FOUND, differ(22, "asked 1 520", "asked 2 520"))
     # Environment 1 has the ring bound, and environment 2 in its place doesn't claim
     sees = [*READS, *SPIN]
     beside = machine(sees, claims, slots=[1, 0], quantum=16, pages=64)
     ring = struct.pack("<I", 1) + b"\xaa" + bytes(PAGE - 5)
     # 7 steps, the answer, the page, 9 steps
-    pair = [Run(beside, text) for text in ("40 packet aa\n", "")]
-    yield Row("a packet in another's ring", *pair, 2, FOUND, differ(20, f"left 10 0 {ring.hex()}", "start"))
+    left, right = (Run(beside, text) for text in ("40 packet aa\n", ""))
+    yield Row("a packet in another's ring", left, right, 2, FOUND, differ(20, f"left 10 0 {ring.hex()}", "start"))
 
 
 def takings() -> Iterator[Row]:

@@ -42,7 +42,7 @@ class Chromium:
     def __init__(self, folder: str):
         from_us, self.outgoing = os.pipe()
         self.incoming, to_us = os.pipe()
-        words = [CHROMIUM, "--headless=new", "--no-sandbox", "--disable-gpu", "--disable-dev-shm-usage", "--no-first-run", "--remote-debugging-pipe",
+        words = [CHROMIUM or "", "--headless=new", "--no-sandbox", "--disable-gpu", "--disable-dev-shm-usage", "--no-first-run", "--remote-debugging-pipe",
                  "--disable-background-networking", "--disable-component-update", f"--user-data-dir={folder}/chromium", "about:blank"]
         self.process = subprocess.Popen(["bash", "-c", f'exec "$@" 3<&{from_us} 4>&{to_us}', "bash", *words], pass_fds=(from_us, to_us),
                                         stdin=subprocess.DEVNULL, stdout=subprocess.DEVNULL, stderr=subprocess.DEVNULL, start_new_session=True)
@@ -158,7 +158,7 @@ class Firefox:
         with open(f"{profile}/user.js", "w", encoding="ascii") as file:
             file.write(f'user_pref("marionette.port", {port});\n' + f'user_pref("browser.download.dir", {json.dumps(folder)});\n'
                        + "".join(f'user_pref("{name}", {value});\n' for name, value in PREFERENCES.items()))
-        words = [FIREFOX, "--headless", "--marionette", "--remote-allow-system-access", "--no-remote", "--profile", profile, "about:blank"]
+        words = [FIREFOX or "", "--headless", "--marionette", "--remote-allow-system-access", "--no-remote", "--profile", profile, "about:blank"]
         self.process = subprocess.Popen(words, stdin=subprocess.DEVNULL, stdout=subprocess.DEVNULL, stderr=subprocess.DEVNULL, start_new_session=True)
         self.connection, self.rest, self.number = connected(port, self.process), b"", 0
         self.message()  # its greeting

@@ -12,8 +12,6 @@ from __future__ import annotations
 import argparse
 import contextlib
 import difflib
-import importlib.machinery
-import importlib.util
 import io
 import json
 import os
@@ -30,14 +28,13 @@ CASE = os.path.dirname(os.path.realpath(__file__))
 ROOT = os.path.dirname(os.path.dirname(CASE))
 sys.path[:0] = [f"{ROOT}/tools", f"{ROOT}/cases"]
 import step_page
+from loading import loaded
 from places import places_of
 from programs import WARNED, Failed, made_machine, run, tool
 from tracing import recorded
 
 TRY = tool("try")
-RUNNER = importlib.util.module_from_spec(importlib.util.spec_from_loader("runner", importlib.machinery.SourceFileLoader("runner", f"{ROOT}/cases/run")))
-sys.modules["runner"] = RUNNER  # its records ask for their module
-RUNNER.__loader__.exec_module(RUNNER)
+RUNNER = loaded(f"{ROOT}/cases/run")
 TICKS, QUANTUM = 1_000, 100
 LONGEST_ROW = 3_000  # characters
 WORKERS = 2
@@ -118,7 +115,11 @@ def faults(room: str) -> Iterator[Item]:
     """The rows of tables of faults: a source, a manifest or a schedule each."""
     with open(f"{ROOT}/examples/hi.img", "rb") as file:
         flat = file.read()[-34:]
-    forms = {"assembler_faults": ("x.s", {}), "schedules": ("x.sch", {"hi.s": b"start: b start\n nop\n"}), "manifests": ("x.txt", {"hi.bin": flat})}
+    forms: Dict[str, Tuple[str, Dict[str, bytes]]] = {
+        "assembler_faults": ("x.s", {}),
+        "schedules": ("x.sch", {"hi.s": b"start: b start\n nop\n"}),
+        "manifests": ("x.txt", {"hi.bin": flat}),
+    }
     for table, (name, more) in forms.items():
         with open(f"{ROOT}/cases/{table}/rows.txt", encoding="utf-8") as file:
             rows = [line.rpartition(" => ")[0] for line in file if " => " in line and not line.startswith("#")]
@@ -159,8 +160,8 @@ def of_tools(item: Item) -> Dict[str, Any]:
 
 def told_status(words: List[str]) -> int:
     """Runs tools/try in this process; its output has no encoding to set."""
-    TRY.open_output = lambda: None
-    return TRY.main(words)
+    vars(TRY)["open_output"] = lambda: None
+    return int(TRY.main(words))
 
 
 def steps_of(item: Item) -> Optional[Dict[str, Any]]:

@@ -179,7 +179,7 @@ failed: li   $2, call_exit
         syscall
 
 # --- The console --------------------------------------------------------------------------------------------------------
-# Puts the number $4 in decimal, and after it the character $5. The digits are made from the last one on.
+# Puts the number $4 in decimal, and behind it the character $5. The digits are made from the last one on.
 
 print:  la   $6, behind
         sb   $5, 0($6)

@@ -28,7 +28,7 @@
 #   The server accepts before it answers. That is right for one client, who waits, so that nobody can come in between. With two
 #   clients a server answers first, and accepts at its next turn.
 #
-#   The client has one slot, so it runs on after its call only if the call was refused. If it was granted and the client runs
+#   The client has one slot, so it runs on behind its call only if the call was refused. If it was granted and the client runs
 #   all the same, the slot came back without an answer: the server is dead, or has dropped it.
 #
 # A slice may end in the middle of a call. Then the server goes on in whichever of the two slots is next, and answers there. So
@@ -129,7 +129,7 @@ offer:  li   $2, call_context
         li   $4, kind_synchronous
         la   $5, serve
         syscall
-        li   $2, call_accept    # only after that: who accepts has an entry
+        li   $2, call_accept    # only behind that: who accepts has an entry
         li   $4, client_bit
         syscall
 

@@ -11,7 +11,7 @@ import os
 import random
 import struct
 import sys
-from typing import List, Tuple
+from typing import List, Tuple, Union
 
 CASES = os.path.dirname(os.path.dirname(os.path.realpath(__file__)))
 sys.path[:0] = [f"{CASES}/reference_model", f"{CASES}/random_systems", CASES]
@@ -35,7 +35,7 @@ class TurningHandlers(Handlers):
     def turning(self) -> List[int]:
         """Copies sixteen bytes of the packet into the page, changes its receiver and at times its first byte, and replies."""
         place = 0x1000 + 16 * self.chance.randrange(4, 8)
-        words = []
+        words: List[int] = []
         for at in range(0, 16, 4):
             words += immediate(OPCODES["lw"], ZERO, 8, at), immediate(OPCODES["sw"], ZERO, 8, place + at)
         words += ori(9, ZERO, self.chance.choice(self.targets)), immediate(OPCODES["sb"], ZERO, 9, place + 5)
@@ -119,13 +119,17 @@ class Net:
 
     def __init__(self, seed: int):
         chance = self.chance = random.Random(seed)
-        self.count, self.filters = chance.randrange(2, 9), []
+        self.count = chance.randrange(2, 9)
+        self.filters: List[List[Tuple[int, ...]]] = []
         self.delay = chance.choice(DELAYS)
         self.ticks = chance.randrange(60) if chance.random() < 0.1 else chance.randrange(300, 900)
-        kinds = [Brief if chance.random() < 0.2 else NetSystem for _ in range(self.count)]
-        self.machines = [kind(1000 * seed + machine, self, machine) for machine, kind in enumerate(kinds)]
+        are_brief = [chance.random() < 0.2 for _ in range(self.count)]
+        self.machines = [self.machine(1000 * seed + machine, machine, is_brief) for machine, is_brief in enumerate(are_brief)]
         if chance.random() < 0.06:
             self.machines = [self.machines[0]] * self.count
+
+    def machine(self, seed: int, machine: int, is_brief: bool) -> Union[Brief, NetSystem]:
+        return Brief(seed, self, machine) if is_brief else NetSystem(seed, self, machine)
 
     def targets(self, machine: int) -> Tuple[int, ...]:
         """What byte 5 may name, mostly other machines or all of them."""

@@ -11,13 +11,13 @@ from commands import CASES, Files, is_command
 from changes import drawn, whole
 
 sys.path += [CASES, f"{CASES}/bare", f"{CASES}/wire"]
-import bare
+import bare_board
 import binary
 from assembler import assemble
-from boards import Board
+from random_boards import Board
 from files import Fault, read_image, read_schedule
 from guests import System
-from report import answer
+from run_report import answer
 from twin import Side
 
 Input = Tuple[List[str], Files]
@@ -101,7 +101,7 @@ def everywhere() -> Iterator[Input]:
     calls += [("twin a.img a.sch b.img b.sch 0 1", same, name) for name in same]
     for words, files, name in calls:
         yield from with_changed(words.split(), files, name)
-    yield from ((["bare", "a.bin", "9", "0"], {"a.bin": bytes(size)}) for size in (0, bare.SIZE, bare.SIZE + 1))
+    yield from ((["bare", "a.bin", "9", "0"], {"a.bin": bytes(size)}) for size in (0, bare_board.SIZE, bare_board.SIZE + 1))
 
 
 # --- Drawn

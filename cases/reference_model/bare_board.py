@@ -1,4 +1,4 @@
-"""The bare board: docs/BARE.md and docs/MACHINE.md, over the machine of machine.py. `python3 bare.py FILE TICKS PERIOD` writes what `bare` does."""
+"""The bare board: docs/BARE.md and docs/MACHINE.md, over the machine of machine.py. `python3 bare_board.py FILE TICKS PERIOD` writes what `bare` does."""
 from __future__ import annotations
 
 import sys
@@ -8,7 +8,7 @@ from typing import Callable, Dict, Iterator, List, Optional, Tuple
 
 from cache import DIRTY, EMPTIED, HIGHEST, LOWEST, ROWS, VALID
 from machine import ADEL, ADES, BP, MOD, RI, SYS, TLBL, TLBS, WORD, Cpu, Instruction, KernelCall, Trap, decode, step
-from report import DONE, REFUSED, text_of
+from run_report import DONE, REFUSED, text_of
 
 PAGE, PAGES, MOST_CONSOLE, ENTRY = 4096, 64, 4092, 0x80000100
 SIZE = PAGES * PAGE

@@ -1,4 +1,4 @@
-"""What a run writes: docs/REPORT.md. `python3 report.py IMAGE SCHEDULE TICKS` writes it, and ends with the status."""
+"""What a run writes: docs/REPORT.md. `python3 run_report.py IMAGE SCHEDULE TICKS` writes it, and ends with the status."""
 from __future__ import annotations
 
 import sys
@@ -6,7 +6,7 @@ from hashlib import sha256
 from typing import Callable, Iterator, Optional, Sequence, Tuple, Union
 
 from board import Board, Env
-from files import Fault, read_image, read_schedule
+from files import Refusal, read_systems
 from ticks import run
 
 DONE, REFUSED = 0, 3
@@ -33,13 +33,13 @@ def living_lines(board: Board, env: Env) -> Iterator[str]:
     yield f"cpu {env.number} {cpu.pc:08x} {cpu.next:08x} {cpu.slot:d} {cpu.hi:08x} {cpu.lo:08x}"
     yield f"regs {env.number} " + " ".join(f"{value:08x}" for value in cpu.regs[1:])
     yield f"excess {env.number} {env.excess}"
-    for vpn, (page, _) in sorted(env.guaranteed.items()):
-        yield f"keep {env.number} {vpn:05x} {sha256(board.pages[page].data).hexdigest()}"
+    for vpn, (number, _) in sorted(env.guaranteed.items()):
+        yield f"keep {env.number} {vpn:05x} {sha256(board.pages[number].data).hexdigest()}"
     for number, page in enumerate(board.pages):
         if page.owner is env and not page.is_guaranteed:
             yield f"page {env.number} {number} {sha256(page.data).hexdigest()}"
-    for vpn, page, is_writable in sorted(env.bindings.values()):
-        yield f"bind {env.number} {vpn:05x} {page} {'w' if is_writable else 'r'}"
+    for vpn, bound, is_writable in sorted(env.bindings.values()):
+        yield f"bind {env.number} {vpn:05x} {bound} {'w' if is_writable else 'r'}"
 
 
 def end_line(board: Board, ticks: int) -> str:
@@ -63,13 +63,11 @@ def answer(
 ) -> Tuple[int, str, Optional[Board]]:
     """The status and the text of `run IMAGE SCHEDULE TICKS`, and the board if there is one; files are (name, bytes), image first.
     `finish` is what is done of a tick behind its turn."""
-    read = []
-    for (name, content), reader in zip(files, (read_image, read_schedule)):
-        try:
-            read.append(reader(content))
-        except Fault as fault:
-            return REFUSED, f"aegis: {name}: {fault}\n", None
-    board = run(*read, ticks, finish)
+    try:
+        (image, events), = read_systems(files)
+    except Refusal as why:
+        return REFUSED, str(why), None
+    board = run(image, events, ticks, finish)
     return DONE, "".join(f"{line}\n" for line in report_lines(board, ticks)), board
 
 
