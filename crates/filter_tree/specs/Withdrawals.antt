@@ -5,10 +5,10 @@ use Rattle.filter_tree.specs.declared.withdrawal.Withdrawal.TheVariants.{IntoPag
 use Rattle.filter_tree.specs.ClaimBook.{ClaimValue}
 
 -- whether a claim is withdrawn, by its number, its environment and its page
-abbrev pub takes : Withdrawal → ℕ → ℕ → ℕ → Bool
-takes (Numbered own number) id env page = id == number && env == own
-takes (IntoPage own) id env page = page == own
-takes (OfEnv own) id env page = env == own
+abbrev pub withdraws : Withdrawal → ℕ → ℕ → ℕ → Bool
+withdraws (Numbered own number) id env page = id == number && env == own
+withdraws (IntoPage own) id env page = page == own
+withdraws (OfEnv own) id env page = env == own
 
 abbrev pub is_withdrawn : Withdrawal → ClaimValue → Bool
-is_withdrawn withdrawal c = takes withdrawal c.id c.env c.page
+is_withdrawn withdrawal c = withdraws withdrawal c.id c.env c.page

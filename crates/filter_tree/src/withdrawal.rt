@@ -3,7 +3,7 @@ ghost use Rattle.std.specs.Prelude.{◌≡◌, filter, map, not, vec_capacity};
 ghost use Rattle.std.specs.Option.{option_map};
 ghost use Rattle.filter_tree.specs.Keeping.{AreRising};
 ghost use Rattle.filter_tree.specs.ClaimBook.{RowValue};
-ghost use Rattle.filter_tree.specs.Withdrawals.{is_withdrawn, takes};
+ghost use Rattle.filter_tree.specs.Withdrawals.{is_withdrawn, withdraws};
 ghost use Rattle.filter_tree.specs.Claims.{row_with_handler_if, row_after_packet_if};
 
 use crate::row::ClaimRow;
@@ -24,7 +24,7 @@ pub(crate) enum Withdrawal {
 impl Withdrawal {
     /// Whether a claim of this number, which the environment made for a page, is withdrawn.
     pub(crate) fn takes(self, id: u32, env: u8, page: u32) -> bool
-        ensures { result ≡ takes self id env page }
+        ensures { result ≡ withdraws self id env page }
     {
         match self {
             Withdrawal::Numbered {
