@@ -84,8 +84,8 @@ class Walker(guests.Guest):
             self.load_number(POINTER, vpn * PAGE)
             self.add(immediate(OPCODES["sw"], POINTER, VALUE, 0))
         self.wait()
-        recap = (RECAP, [page], 5, 0, 9, 0)
-        ends: Tuple[Tuple[Any, ...], ...] = (FREE, [page]), (FREE, [page]), recap, recap, (UNBIND, vpn), (EXIT, 0), (OWN_NUMBER,)
+        free, recap = (FREE, [page]), (RECAP, [page], 5, 0, 9, 0)
+        ends: Tuple[Tuple[Any, ...], ...] = (free, free, recap, recap, (UNBIND, vpn), (EXIT, 0), (OWN_NUMBER,))
         self.call(*self.chance.choice(ends))
 
     BLOCKS = (*guests.Guest.BLOCKS, (walk, 30), (bind_in_turn, 5), (share, 40), (show, 30))
