@@ -6,9 +6,10 @@ import struct
 from dataclasses import dataclass, field
 from typing import Dict, List, Tuple
 
+from kernel_layout import CONTEXT_VPN
 from limits import PAGE_SIZE
 
-CONTEXT_VPN, END_OF_STACK = 1, 0x7FFF0
+END_OF_STACK = 0x7FFF0
 MAGIC = {b"AEG1": 1, b"AEG2": 2}
 
 

@@ -6,9 +6,11 @@ from typing import Dict, NamedTuple, Optional, Sequence, Tuple
 
 CODE, VALUE, FIRST_ARGUMENT = 2, 3, 4  # registers
 ANY = 0xFFFFFFFF
-YIELD, PUT, EXIT, ALLOC, FREE, RECAP, BIND, UNBIND, CONTEXT = range(9)
-TRANSFER, CLAIM, UNCLAIM, HANDLER, LINE, BACKUP = 10, 14, 15, 16, 17, 18
-
+(YIELD, PUT, EXIT, ALLOC, FREE, RECAP, BIND, UNBIND, CONTEXT, ACCEPT, TRANSFER, TAKE, DROP, QUERY, CLAIM, UNCLAIM, HANDLER, LINE, BACKUP,
+ SEND, OWN_NUMBER, CLOCK) = range(22)
+# The codes of refusals, by their numbers, and what all answers are called.
+(NO_PAGE, TAKEN, NONE_FREE, NOT_OWNER, NO_RIGHT, BAD_VPN, GUARANTEED, NO_ENV, NOT_ACCEPTED, NO_SLICE, SLOT_TAKEN, NOT_HOLDER, BAD_FILTER, OVERLAP,
+ NO_FILTER, BAD_HANDLER, LINE_TAKEN, CONSOLE_FULL, FULL, BAD_CALL, BAD_POINTER, AGAIN) = range(1, 23)
 ANSWERS = ("granted NoPage Taken NoneFree NotOwner NoRight BadVpn Guaranteed NoEnv NotAccepted NoSlice SlotTaken NotHolder BadFilter Overlap "
            "NoFilter BadHandler LineTaken ConsoleFull Full BadCall BadPointer Again").split()
 # How an argument is shown: a number, an address, or -1 where it names nobody or any.
@@ -29,11 +31,11 @@ CALLS: Dict[int, Call] = {
     ALLOC: Call("alloc", ("any page", "words", "words", "words", "words")), FREE: Call("free", ("page",)),
     RECAP: Call("recap", ("page", "words", "words", "words", "words")),
     BIND: Call("bind", ("vpn", "page", "writable", "words", "words")), UNBIND: Call("unbind", ("vpn",)),
-    CONTEXT: Call("context", ("kind", "address")), 9: Call("accept", ("mask",)), TRANSFER: Call("transfer", ("env", "kind")),
-    11: Call("take", ("slot",)), 12: Call("drop", ("slot",)), 13: Call("query", ("question", "which")),
+    CONTEXT: Call("context", ("kind", "address")), ACCEPT: Call("accept", ("mask",)), TRANSFER: Call("transfer", ("env", "kind")),
+    TAKE: Call("take", ("slot",)), DROP: Call("drop", ("slot",)), QUERY: Call("query", ("question", "which")),
     CLAIM: Call("claim", ("address", "atoms", "page")), UNCLAIM: Call("unclaim", ("claim",)),
     HANDLER: Call("handler", ("claim", "address", "length")), LINE: Call("line", ("line", "taken")), BACKUP: Call("backup", ("page",)),
-    19: Call("send", ("address", "length")), 20: Call("self"), 21: Call("clock"),
+    SEND: Call("send", ("address", "length")), OWN_NUMBER: Call("self"), CLOCK: Call("clock"),
 }
 
 

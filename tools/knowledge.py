@@ -6,10 +6,11 @@ from __future__ import annotations
 
 from typing import Any, Dict, Iterable, List, NamedTuple, Optional, Tuple
 
-from boot_memory import CONTEXT_VPN, Boot
+from boot_memory import Boot
+from kernel_layout import CONTEXT_VPN
 from limits import PAGE_SIZE, VERSIONS
 
-AT, V0, A0, K0, K1, SP, HI, LO = 1, 2, 4, 26, 27, 29, 32, 33
+V0, A0, SP, HI, LO = 2, 4, 29, 32, 33
 FIRST_STACK = 0x7FFEFFF0
 NAMES = [f"${number} {name}" for number, name in enumerate(
     "zero at v0 v1 a0 a1 a2 a3 t0 t1 t2 t3 t4 t5 t6 t7 s0 s1 s2 s3 s4 s5 s6 s7 t8 t9 k0 k1 gp sp fp ra".split())]
@@ -17,11 +18,6 @@ NAMES += ["hi", "lo"]
 PC, NEXT, SLOT, LINES, HAS_CLAIM, CLAIMS, CONSOLE = "pc", "next", "slot", "lines", "claim", "claims", "console"
 # Whether there may be bindings that aren't known, and whether a store went to an address that isn't.
 IS_VAGUE, IS_LOST = "vague", "lost"
-EXCEPTIONS, STARTS, ENDS, ASYNCHRONOUS, SYNCHRONOUS = range(5)
-# Places in the context page.
-EXCEPTION_AREA, START_AREA, END_AREA, ENTRY_AREA = 0x000, 0x040, 0x050, 0x080
-POST_PACKETS, POST_LOST, POST_LINES, POST_OUTSTANDING, POST_DEADLINE, POST_TAKINGS, RECORDS = 0x140, 0x144, 0x148, 0x14C, 0x150, 0x17C, 0x180
-MOST_RECORDS, NO_BACKUP = 64, 0xFFFFFFFF
 CONTEXT = ("vpn", CONTEXT_VPN)
 
 PageKey = Tuple[Any, ...]

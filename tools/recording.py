@@ -14,9 +14,10 @@ import kernel_calls
 from boot_memory import Image
 from instructions import access, cause, is_call, is_jump, is_store, stored, target
 from kernel_calls import CODE, FIRST_ARGUMENT, VALUE, answered, asked
-from knowledge import (ASYNCHRONOUS, AT, CLAIMS, CONSOLE, CONTEXT, END_AREA, ENDS, ENTRY_AREA, EXCEPTION_AREA, EXCEPTIONS, HAS_CLAIM, HI, IS_LOST, IS_VAGUE, K0,
-                       K1, LINES, LO, MOST_RECORDS, NEXT, NO_BACKUP, PC, POST_LINES, POST_OUTSTANDING, POST_PACKETS, POST_TAKINGS, RECORDS, SLOT,
-                       START_AREA, STARTS, Binding, Change, Claim, Knowledge)
+from kernel_layout import (ASYNCHRONOUS, AT, END_AREA, ENDS, ENTRY_AREA, EXCEPTION_AREA, EXCEPTIONS, K0, K1, MOST_RECORDS, NO_BACKUP,
+                           POST_LINES, POST_OUTSTANDING, POST_PACKETS, POST_TAKINGS, RECORDS, START_AREA, STARTS)
+from knowledge import (CLAIMS, CONSOLE, CONTEXT, HAS_CLAIM, HI, IS_LOST, IS_VAGUE, LINES, LO, NEXT, PC, SLOT, Binding, Change, Claim,
+                       Knowledge)
 from limits import PAGE_SIZE
 from packet_filters import ATOM_SIZE, matches
 from report import Report

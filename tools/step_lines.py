@@ -7,7 +7,8 @@ from bisect import bisect_right
 from typing import Callable, Dict, Iterable, Iterator, List, Optional, Tuple
 
 from instructions import is_store
-from knowledge import K1, NAMES, Change, Claim, Knowledge, Unknown
+from kernel_layout import K1
+from knowledge import NAMES, Change, Claim, Knowledge, Unknown
 from places import Places
 from recording import TRANSFERS, Note, Step
 from report import CAUSES, Environment, Head, Report

@@ -18,15 +18,15 @@ import random
 import sys
 from typing import Callable, Dict, List, Protocol, Tuple, Union
 
-sys.path.insert(0, os.path.dirname(os.path.dirname(os.path.realpath(__file__))))
+CASES = os.path.dirname(os.path.dirname(os.path.realpath(__file__)))
+sys.path[:0] = [CASES, f"{CASES}/../tools"]
 import binary
+from kernel_calls import (ACCEPT, ALLOC, ANY, BIND, CLOCK, CONTEXT, DROP, EXIT, FREE, OWN_NUMBER, PUT, QUERY, RECAP, TAKE, TRANSFER, UNBIND,
+                          YIELD)
+from kernel_layout import ASYNCHRONOUS, CONTEXTS, ENDS, EXCEPTIONS, STARTS, SYNCHRONOUS
 from binary import BREAK, NOP, SYSCALL, addiu, immediate, ori, register
 
 BASE, PAGE, AREA = 0x2000, 4096, 0x1000
-YIELD, PUT, EXIT, ALLOC, FREE, RECAP, BIND, UNBIND, CONTEXT, ACCEPT, TRANSFER = range(11)
-TAKE, DROP, QUERY, OWN_NUMBER, CLOCK = 11, 12, 13, 20, 21
-EXCEPTIONS, STARTS, ENDS, ASYNCHRONOUS, SYNCHRONOUS = CONTEXTS = range(5)
-ANY = 0xFFFFFFFF
 ZERO, AT, V0, V1, A0, A1, A2, A3, A4 = range(9)
 SCRATCH, PAGES, POINTER, COUNTER, ROUNDS, MISSES, RESUME, OLD, K0, K1, STACK = range(9, 16), range(16, 20), 20, 21, 22, 23, 24, 25, 26, 27, 29
 # the VPNs at which pages are bound: the first three share a row, and so do the next two with guaranteed ones

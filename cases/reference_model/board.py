@@ -14,18 +14,12 @@ from cache import FORWARDED, GUARANTEED, STRIPE, Cache, Refill, hi_word, lo_word
 from files import PAGE, VERSIONS, Image, Program
 from filters import Filter
 from handlers import FAULT, Run
+from kernel_layout import (ASYNCHRONOUS, AT, BUFFER_SIZE, CONTEXT_VPN, END_AREA, ENDS, ENTRY_AREA, EXCEPTION_AREA, EXCEPTIONS, K0, K1, LINES, MOST_RECORDS,
+                           NO_BACKUP, POST_LINES, POST_LOST, POST_OUTSTANDING, POST_PACKETS, POST_TAKINGS, RECORDS, START_AREA, STARTS,
+                           SYNCHRONOUS)
 from machine import ADEL, ADES, MOD, TLBL, TLBS, WORD, Cpu, Trap
 
-LINES = 8
-EXCEPTIONS, STARTS, ENDS, ASYNCHRONOUS, SYNCHRONOUS = range(5)
-AT, K0, K1 = 1, 26, 27
-
-# Places in the context page.
-CONTEXT_VPN, EXCEPTION_AREA, START_AREA, END_AREA, ENTRY_AREA = 1, 0x000, 0x040, 0x050, 0x080
-POST_PACKETS, POST_LOST, POST_LINES = 0x140, 0x144, 0x148
-POST_OUTSTANDING, POST_DEADLINE, POST_TAKINGS, RECORDS = 0x14C, 0x150, 0x17C, 0x180
-MOST_RECORDS, NO_BACKUP, MOST_OUTSTANDING = 64, 0xFFFFFFFF, 0xFFFFFFFF
-BUFFER_SIZE = 0x800  # of which a ring page has two
+MOST_OUTSTANDING = 0xFFFFFFFF
 MOST_SENT = 256  # packets that an environment sends
 
 # What an environment is given: the name of its kind, its numbers, and its bytes if it has some.

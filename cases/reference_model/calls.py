@@ -11,12 +11,11 @@ from board import ASYNCHRONOUS, LINES, MOST_SENT, SYNCHRONOUS, Board, Claim, Env
 from files import MOST_PACKET, PAGE
 from filters import BYTES_OF_ATOM, read_filter
 from handlers import MOST_WORDS, first_bad
+from kernel_calls import (AGAIN, ANY, BAD_CALL, BAD_FILTER, BAD_HANDLER, BAD_POINTER, BAD_VPN, CONSOLE_FULL, EXIT, FULL, GUARANTEED, LINE_TAKEN, NONE_FREE,
+                          NOT_ACCEPTED, NOT_HOLDER, NOT_OWNER, NO_ENV, NO_FILTER, NO_PAGE, NO_RIGHT, NO_SLICE, OVERLAP, SLOT_TAKEN, TAKEN)
 
-ANY, USER_VPNS = 0xFFFFFFFF, 0x80000
+USER_VPNS = 0x80000
 MOST_CONSOLE, MOST_ATOMS, MOST_CLAIMS, MOST_BACKUPS, LEAST_SENT = 65536, 16, 8, 64, 14
-
-(NO_PAGE, TAKEN, NONE_FREE, NOT_OWNER, NO_RIGHT, BAD_VPN, GUARANTEED, NO_ENV, NOT_ACCEPTED, NO_SLICE, SLOT_TAKEN, NOT_HOLDER, BAD_FILTER, OVERLAP,
- NO_FILTER, BAD_HANDLER, LINE_TAKEN, CONSOLE_FULL, FULL, BAD_CALL, BAD_POINTER, AGAIN) = range(1, 23)
 
 
 class Refused(Exception):
@@ -270,7 +269,6 @@ def clock(board: Board, env: Env, *_: int) -> int:
     return board.time
 
 
-EXIT = 2
 CALLS: Dict[int, Callable[..., int]] = {
     0: give_up, 1: put, 3: alloc, 4: free, 5: recap, 6: bind, 7: unbind, 8: context, 9: accept, 10: transfer, 11: take_slot, 12: drop_slot,
     13: query, 14: claim, 15: unclaim, 16: handler, 17: line, 18: backup, 19: send, 20: own_number, 21: clock,

@@ -11,11 +11,12 @@ ROOT = os.path.join(os.path.dirname(os.path.realpath(__file__)), "..", "..")
 sys.path += [f"{ROOT}/tools", f"{ROOT}/cases"]
 import binary
 from binary import EMPTY, MAGIC
+from kernel_layout import CONTEXT_VPN
 from limits import (LEAST_PAGES, LEAST_QUANTUM, MOST_ASKED, MOST_EVENTS, MOST_LINE, MOST_MAPPINGS, MOST_PACKET_SIZE as MOST_PACKET, MOST_QUANTUM,
                     MOST_SLOTS, MOST_STACK_PAGES as MOST_STACK, MOST_TARGET, MOST_RUN_TICKS, PAGE_SIZE as PAGE, VERSIONS)
 
 LEAST_ADDRESS, END_OF_ADDRESSES, END_OF_STACK = 0x2000, 0x7FF00000, 0x7FFF0000
-CONTEXT_VPN, WORD = 1, 0xFFFFFFFF
+WORD = 0xFFFFFFFF
 NAME = b"abcdefghijklmnopqrstuvwxyz0123456789_"
 
 

@@ -24,20 +24,22 @@ import sys
 from typing import Iterable, List, Sequence, Tuple, Type, Union
 
 CASES = os.path.dirname(os.path.dirname(os.path.abspath(__file__)))
-sys.path += [CASES, f"{CASES}/random_systems"]
+sys.path += [CASES, f"{CASES}/random_systems", f"{CASES}/../tools"]
 import binary
+import kernel_layout
+from kernel_calls import BACKUP, CLAIM, HANDLER, LINE, SEND, UNCLAIM
 from systems import (A0, A1, ALLOC, ANY, AREA, BASE, BIND, CONTEXTS, COUNTER, EXCEPTIONS, EXIT, FREE, NOP, OPCODES, PAGE, PAGES, POINTER, PUT, ROUNDS,
                      SCRATCH, SYSCALL, V0, V1, ZERO, Blocks, Program, addiu, immediate, ori, register)
 
 from handler_words import Handlers
 
-CLAIM, UNCLAIM, HANDLER, LINE, BACKUP, SEND = 14, 15, 16, 17, 18, 19
 CLAIMED, CODES, VALUES = 28, 30, 31  # the registers that have the number of a claim, and sums of all answers
 DATA, HANDLERS, LOOP_FILTER, PACKETS = BASE + PAGE, BASE + PAGE + 0x3D0, BASE + PAGE + 0x700, BASE + PAGE + 0x800
 LONGEST, MOST_WORDS = 1514, 720
 RINGS, OTHERS = (0x500, 0x501, 0x502), (0x101, 0x103, 0x104)  # the VPNs at which rings, and pages of others, are bound
-POSTS = range(AREA + 0x140, AREA + 0x14C, 4)
-OUTSTANDING, DEADLINE, TAKINGS, RECORDS = AREA + 0x14C, AREA + 0x150, AREA + 0x17C, AREA + 0x180
+POSTS = range(AREA + kernel_layout.POST_PACKETS, AREA + kernel_layout.POST_OUTSTANDING, 4)
+OUTSTANDING, DEADLINE, TAKINGS, RECORDS = (AREA + it for it in (
+    kernel_layout.POST_OUTSTANDING, kernel_layout.POST_DEADLINE, kernel_layout.POST_TAKINGS, kernel_layout.RECORDS))
 UDP = ((12, 2, 0xFFFF, 0x0800), (23, 1, 0xFF, 0x11))
 
 
@@ -406,9 +408,10 @@ class Guest(Program):
         """Calls that there aren't, with arguments that would make sense."""
         self.call(self.chance.choice((22, 23, 0x10010)), [CLAIMED] if self.chance.random() < 0.5 else self.held(), PACKETS, 4)
 
-    BLOCKS: Blocks = (*Program.BLOCKS, (claim, 10), (claim_bound, 2), (nine, 0.7), (unclaim, 3), (handle_packets, 6), (drain, 10), (empty, 6), (meddle, 14),
-              (look, 3), (line, 9), (send, 5), (flood, 0.5), (hoard, 6), (load, 6), (load_many, 2), (give_back, 7), (recover, 6), (count_anew, 2), (grab, 4),
-              (unknown, 1), (Program.wait, 3))
+    BLOCKS: Blocks = (
+        *Program.BLOCKS, (claim, 10), (claim_bound, 2), (nine, 0.7), (unclaim, 3), (handle_packets, 6), (drain, 10), (empty, 6), (meddle, 14),
+        (look, 3), (line, 9), (send, 5), (flood, 0.5), (hoard, 6), (load, 6), (load_many, 2), (give_back, 7), (recover, 6), (count_anew, 2),
+        (grab, 4), (unknown, 1), (Program.wait, 3))
 
     def code_and_data(self) -> Tuple[bytes, bytes]:
         """The bytes of the code, and those of the data."""

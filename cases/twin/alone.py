@@ -7,16 +7,15 @@ import struct
 from hashlib import sha256
 from typing import Dict, Iterator, List, NamedTuple, Optional, Sequence, Set, Tuple
 
-from board import (AT, BUFFER_SIZE, CONTEXT_VPN, END_AREA, ENDS, ENTRY_AREA, EXCEPTION_AREA, EXCEPTIONS, K0, K1, MOST_RECORDS, MOST_SENT, NAMES, NO_BACKUP,
-                   POST_DEADLINE, POST_LINES, POST_LOST, POST_OUTSTANDING, POST_PACKETS, POST_TAKINGS, RECORDS, START_AREA, STARTS, Item, word_of)
-from calls import EXIT
+from board import MOST_SENT, NAMES, Item, word_of
 from files import PAGE, VERSIONS
 from handlers import Run
+from kernel_calls import ACCEPT, ALLOC, BIND, CLAIM, CONTEXT, EXIT, HANDLER, PUT, SEND, UNBIND, UNCLAIM
+from kernel_layout import (ASYNCHRONOUS, AT, BUFFER_SIZE, CONTEXT_VPN, END_AREA, ENDS, ENTRY_AREA, EXCEPTION_AREA, EXCEPTIONS, K0, K1, MOST_RECORDS, NO_BACKUP,
+                           POST_DEADLINE, POST_LINES, POST_LOST, POST_OUTSTANDING, POST_PACKETS, POST_TAKINGS, RECORDS, START_AREA, STARTS)
 from machine import ADEL, ADES, MOD, TLBL, TLBS, WORD, Cpu, KernelCall, Trap, step
 from run_report import text_of
 
-ALLOC, PUT, BIND, UNBIND, CONTEXT, ACCEPT, CLAIM, UNCLAIM, HANDLER, SEND = 3, 1, 6, 7, 8, 9, 14, 15, 16, 19
-ASYNCHRONOUS = 3
 
 
 class Ring:

@@ -14,10 +14,9 @@ from typing import Dict, Iterator, List, NamedTuple, Sequence, Tuple
 sys.dont_write_bytecode = True
 import binary
 from binary import BEQ, BNE, NOP, SYSCALL, addiu, branch, lui, move, number, sw
+from kernel_calls import ACCEPT, ALLOC, BACKUP, BIND, CLAIM, CLOCK, CONTEXT, EXIT, FREE, LINE, QUERY, RECAP, TRANSFER, YIELD
 
 BASE, PAGE, EMPTY, STACK_POINTER = 0x2000, 4096, 255, 0x7FFEFFF0
-YIELD, EXIT, ALLOC, FREE, RECAP, BIND, CONTEXT, ACCEPT, TRANSFER = 0, 2, 3, 4, 5, 6, 8, 9, 10
-QUERY, CLAIM, LINE, BACKUP, CLOCK = 13, 14, 17, 18, 21
 ANY, ALL = -1, 0xFFFF
 ENDS, ASYNCHRONOUS, SYNCHRONOUS = 2, 3, 4
 DONE, FOUND = 0, 1
