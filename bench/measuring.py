@@ -3,7 +3,6 @@
 from __future__ import annotations
 
 import os
-import re
 import resource
 import shutil
 import subprocess
@@ -14,9 +13,18 @@ from typing import Callable, List, Sequence, Tuple
 ROOT = os.path.dirname(os.path.dirname(os.path.realpath(__file__)))
 sys.path[:0] = [f"{ROOT}/cases", f"{ROOT}/tools"]
 sys.dont_write_bytecode = True
+from built import program
 from matching import matched
 
 Command = Sequence[str]
+
+
+def measured(doc: str) -> str:
+    """The path of the program that is measured (tools/built.py); with a word for help a measurement's text is printed."""
+    if {"-h", "--help"} & set(sys.argv[1:]):
+        print(doc, end="")
+        sys.exit(0)
+    return program()
 
 
 def written(folder: str, name: str, content: bytes, mode: int = 0o600) -> str:

@@ -9,8 +9,10 @@ import io
 import os
 import re
 import shutil
+import signal
 import struct
 import subprocess
+import sys
 import tempfile
 from dataclasses import dataclass, field
 from types import ModuleType
@@ -24,7 +26,7 @@ from faults import faults, plain
 from limits import LEAST_QUANTUM, MOST_ENVIRONMENTS, MOST_MAPPINGS, MOST_QUANTUM, PAGE_SIZE, VERSIONS
 from loading import loaded
 from report import Report, read
-from shown import decoded, shown
+from shown import decoded, open_output, shown
 from source import Source, read_source
 
 
@@ -487,3 +489,22 @@ def add_run_words(parser: argparse.ArgumentParser, ticks: int, most: int) -> Non
 def prepared(chosen: argparse.Namespace, room: str) -> Machine:
     """The machine that the words name."""
     return made_machine(chosen.sources, chosen.quantum, chosen.schedule, room)
+
+
+def worked(name: str, chosen: argparse.Namespace, work: Callable[[argparse.Namespace, str], int]) -> int:
+    """Has a tool work by its words, in the folder of `--keep` or in one that goes; the status. Why it failed is said."""
+    signal.signal(signal.SIGPIPE, signal.SIG_DFL)
+    open_output()
+    with tempfile.TemporaryDirectory(prefix=f"aegis-{name}-") as room:
+        try:
+            if chosen.keep:
+                os.makedirs(chosen.keep, exist_ok=True)
+            return work(chosen, chosen.keep or room)
+        except Failed as why:
+            sys.stdout.flush()
+            is_refused = why.status == REFUSED
+            print(shown(str(why) if is_refused else f"{name}: {why}"), file=sys.stdout if is_refused else sys.stderr)
+            return why.status
+        except OSError as fault:
+            print(f"{name}: {fault.filename}: {fault.strerror}", file=sys.stderr)
+            return UNWRITTEN

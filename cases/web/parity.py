@@ -153,15 +153,9 @@ def of_tools(item: Item) -> Dict[str, Any]:
     out = io.StringIO()
     words = [*item.sources, "--ticks", str(TICKS), "--quantum", str(QUANTUM), *(["--schedule", item.schedule] if item.schedule else [])]
     with contextlib.redirect_stdout(out), contextlib.redirect_stderr(out):
-        status = told_status(words)
+        status = int(TRY.main(words))
     lines = [line[5:] if line.startswith("try: ") else line for line in out.getvalue().split("\n")]  # the tool's name
     return {"status": status, "lines": lines[:-1] if lines and not lines[-1] else lines, "steps": steps_of(item) if item.env is not None else None}
-
-
-def told_status(words: List[str]) -> int:
-    """Runs tools/try in this process; its output has no encoding to set."""
-    vars(TRY)["open_output"] = lambda: None
-    return int(TRY.main(words))
 
 
 def steps_of(item: Item) -> Optional[Dict[str, Any]]:
