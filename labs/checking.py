@@ -137,7 +137,7 @@ def aegis(*words: str, cwd: str) -> bytes:
 class Machine:
     """An image, which runs as long as one likes, and the folder with its files."""
 
-    def __init__(self, lab: Lab, room: str, image: str, files: List[str]):
+    def __init__(self, lab: Optional[Lab], room: str, image: str, files: List[str]):
         self.lab, self.room, self.image = lab, room, image
         self.files = files  # the ELF file of each environment
         self.schedule = "/dev/null"
@@ -239,6 +239,7 @@ class Machine:
             statement = read_source(file.read()).at(cpu.pc)
         if not statement:
             return [f"   at 0x{cpu.pc:08x}, where no instruction of the program's text is"]
+        assert self.lab is not None, "places are named by the checker of a lab"
         path = self.lab.shown if name == f"{self.lab.name}.s" else os.path.relpath(f"{self.lab.folder}/{name}")
         return [f"   {path}:{statement.line}: {decoded(statement.text).strip()}"]
 
