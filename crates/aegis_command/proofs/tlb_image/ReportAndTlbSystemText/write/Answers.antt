@@ -1,4 +1,4 @@
--- What is written are the report and the TLB of the run.
+-- What is written is the report, and the TLB of the run after it.
 use Rattle.std.proofs.Common.{◌≡◌, ◌∙◌, ◌++◌, ℕ, List, subst}
 use Rattle.run_report.specs.Report.{report_text}
 use Rattle.tlb_report.specs.Text.{tlb_text}
