@@ -2,8 +2,12 @@
 use Rattle.std.specs.Prelude.{ℕ, List, [], ◌∷◌, ◌++◌, Option, None, option_map}
 use Rattle.boot_image.specs.ImageValue.{ImageValue}
 use Rattle.external_event.specs.EventValue.{EventValue}
+use Rattle.kernel_journal.specs.declared.row.RunEnd.{RunEnd}
 use Rattle.world_model.specs.Event.{schedule_of}
+use Rattle.world_model.specs.World.{World}
 use Rattle.run_model.specs.Run.{System, world_after, end_of_run}
+use Rattle.run_report.specs.Report.{report_text}
+use Rattle.tlb_model.specs.Cache.{Cache}
 use Rattle.tlb_course.specs.Course.{cache_after}
 use Rattle.tlb_report.specs.Text.{tlb_text}
 use Rattle.commands.specs.Command.{CommandValue}
@@ -11,6 +15,10 @@ use Rattle.aegis_command.specs.Ranges.{ticks_of}
 use Rattle.aegis_command.specs.RunImage.{report_after}
 use Rattle.aegis_command.specs.SystemDue.{Writing, system_words}
 use Rattle.aegis_command.specs.declared.tlb_image.ReportAndTlb.{ReportAndTlb}
+
+-- the report of a world and its TLB, whose run ended in this way
+abbrev pub board_text : World → Cache → RunEnd → List ℕ
+board_text w c end = report_text w end ++ tlb_text w c end
 
 -- the TLB of an image's run after so many ticks, in which these events happen
 unfoldable pub tlb_after : ImageValue → List EventValue → ℕ → List ℕ

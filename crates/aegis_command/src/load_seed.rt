@@ -75,7 +75,7 @@ fn push_run(
     ensures { OnOk result (out.new.items ≡ out.old.items ++ summary_after image.now events.now ticks.number) }
 {
     let run = ended_run(alloc, image, events, ticks)?;
-    push_summary(alloc, out, &run.course.board, run.end)
+    push_summary(alloc, out, &run.board, run.end)
 }
 
 /// The line that names the seed.

@@ -37,6 +37,6 @@ impl SystemText for Report {
         events: &[Event],
     ) -> Result<Vec<u8>, OutOfMemory> {
         let run = ended_run(alloc, image, events, self.ticks)?;
-        report(alloc, &run.course.board, run.end)
+        report(alloc, &run.board, run.end)
     }
 }

@@ -1,12 +1,16 @@
 //! What `tlb IMAGE SCHEDULE TICKS` writes.
-ghost use Rattle.aegis_command.specs.TlbImage.{report_and_tlb_asked, report_and_tlb_writing};
+ghost use Rattle.std.specs.Prelude.{◌≡◌, IfOk};
+ghost use Rattle.board_model.specs.Showing.{world_of};
+ghost use Rattle.aegis_command.specs.TlbImage.{board_text, report_and_tlb_asked, report_and_tlb_writing};
 
 use crate::ended_run::ended_run;
 use crate::ranged::Ticks;
 use crate::system_command::SystemText;
+use aegis_calls::Board;
 use aegis_limits::OutOfMemory;
 use boot_image::Image;
 use external_event::Event;
+use kernel_journal::RunEnd;
 use run_report::report;
 use std::alloc::Global;
 use tlb_report::tlb_text;
@@ -16,6 +20,16 @@ use tlb_report::tlb_text;
 pub struct ReportAndTlb {
     /// How many ticks to run.
     pub ticks: Ticks,
+}
+
+/// The report of a board whose run ended in this way, and behind it its TLB.
+fn text_of(alloc: Global, board: &Board, end: RunEnd) -> Result<Vec<u8>, OutOfMemory>
+    ensures { IfOk result (λ text. text.items ≡ board_text (world_of board.now) board.now.tlb end) }
+{
+    let mut text = report(alloc, board, end)?;
+    let tlb = tlb_text(alloc, board, end)?;
+    text.extend_from_slice(&tlb)?;
+    Ok(text)
 }
 
 impl SystemText for ReportAndTlb {
@@ -38,9 +52,6 @@ impl SystemText for ReportAndTlb {
         events: &[Event],
     ) -> Result<Vec<u8>, OutOfMemory> {
         let run = ended_run(alloc, image, events, self.ticks)?;
-        let mut text = report(alloc, &run.course.board, run.end)?;
-        let tlb = tlb_text(alloc, &run.course.board, run.end)?;
-        text.extend_from_slice(&tlb)?;
-        Ok(text)
+        text_of(alloc, &run.board, run.end)
     }
 }

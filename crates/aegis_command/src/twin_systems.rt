@@ -2,8 +2,9 @@
 ghost use Rattle.std.specs.Prelude.{◌≡◌, ◌<◌, ◌^◌, IfOk, length, map, option_map, string_bytes, true};
 ghost use Rattle.commands.specs.Work.{Settles};
 ghost use Rattle.external_event.specs.Order.{are_in_order};
+ghost use Rattle.twin_run.specs.Course.{Begins};
 ghost use Rattle.aegis_command.specs.SystemDue.{meant};
-ghost use Rattle.aegis_command.specs.TwinSystems.{answer_due, answer_seen, due_seen, twin_seen, twin_words};
+ghost use Rattle.aegis_command.specs.TwinSystems.{answer_due, answer_on, answer_seen, due_seen, twin_seen, twin_words};
 
 use crate::ranged::LastSlice;
 use crate::system_files::{SystemFiles, SystemNames};
@@ -12,6 +13,7 @@ use aegis_limits::OutOfMemory;
 use boot_image::Image;
 use commands::{Answer, Command, Status, content};
 use external_event::Event;
+use feed_log::ToldRun;
 use feed_run::BoardRun;
 use std::alloc::Global;
 use twin_run::{TwinAnswer, twin, twin_text};
@@ -69,6 +71,24 @@ fn settle(alloc: Global, env: u8, answer: &TwinAnswer) -> Result<Answer, OutOfMe
     })
 }
 
+/// The answer on two runs at their begins.
+fn compare<R: ToldRun + Drop>(
+    alloc: Global,
+    mut left: R,
+    mut right: R,
+    env: u8,
+    slice: LastSlice,
+) -> Result<Answer, OutOfMemory>
+    requires left { Begins env (R.progress left) }
+    requires right { Begins env (R.progress right) }
+    requires left_whole { R.IsWhole left }
+    requires right_whole { R.IsWhole right }
+    ensures { IfOk result (Settles (answer_on (R.progress left).system (R.progress right).system env slice.number)) }
+{
+    let answer = twin(alloc, &mut left, &mut right, env, slice.number)?;
+    settle(alloc, env, &answer)
+}
+
 /// The answer on two systems of images and events.
 fn answer<'i, 'b, 'e>(
     alloc: Global,
@@ -82,16 +102,9 @@ fn answer<'i, 'b, 'e>(
     requires right { are_in_order 0 right_events.now ≡ true }
     ensures { IfOk result (Settles (answer_seen call.entry (meant left.now left_events.now) (meant right.now right_events.now))) }
 {
-    let mut left_run = BoardRun::boot(alloc, left, left_events, call.env)?;
-    let mut right_run = BoardRun::boot(alloc, right, right_events, call.env)?;
-    let answer = twin(
-        alloc,
-        &mut left_run,
-        &mut right_run,
-        call.env,
-        call.slice.number,
-    )?;
-    settle(alloc, call.env, &answer)
+    let left = BoardRun::boot(alloc, left, left_events, call.env)?;
+    let right = BoardRun::boot(alloc, right, right_events, call.env)?;
+    compare(alloc, left, right, call.env, call.slice)
 }
 
 /// What is due for a comparison of these files: the first fault, or the answer.
