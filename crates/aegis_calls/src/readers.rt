@@ -7,12 +7,13 @@ ghost use Rattle.r3k_cp0.specs.Random.{first_random, random_end};
 ghost use Rattle.tlb_model.specs.Cache.{fills_of};
 
 use crate::board::Board;
-use aegis_limits::OutOfMemory;
+use aegis_limits::{OutOfMemory, Version};
 use bind_book::{Binding, Bindings};
-use board_acts::{is_owned, page_behind};
-use env_frames::Env;
+use board_acts::{is_owned, page_behind, space_in};
+use env_frames::{Context, Env};
 use filter_tree::Claims;
 use frame_store::Frames;
+use guest_memory::guest_page;
 use kernel_journal::Row;
 use mips_exec::Cpu;
 use page_book::Pages;
@@ -20,7 +21,7 @@ use r3k_tlb::Tlb;
 use revocation_book::Revocations;
 use slot_vector::Slots;
 use tlb_model::Fills;
-use world_model::{Life, PageView, WorldView};
+use world_model::{Life, MappedView, PageView, Runner, WorldView};
 
 impl Board {
     ghost use Rattle.board_model.specs.Showing.{world_of};
@@ -119,6 +120,10 @@ impl WorldView for Board {
 
     ghost world = { world_of };
 
+    fn version(&self) -> Version {
+        self.bindings.version()
+    }
+
     fn envs(&self) -> u8 {
         self.roster.len() as u8
     }
@@ -141,6 +146,14 @@ impl WorldView for Board {
         } else {
             self.roster.at(env).env.kept()
         }
+    }
+
+    fn mask(&self, env: u8) -> u32 {
+        self.roster.frame(env).accept()
+    }
+
+    fn handler(&self, env: u8, context: Context) -> u32 {
+        self.roster.frame(env).handler(context)
     }
 
     fn console(&self, env: u8) -> &[u8] {
@@ -184,8 +197,21 @@ impl WorldView for Board {
         self.bindings.in_row(env, row)
     }
 
+    fn sight(&self, env: u8, vpn: u32) -> Option<MappedView<'_>> {
+        let space = space_in(&self.roster, &self.bindings, env);
+        guest_page(&self.frames, &space, vpn)
+    }
+
     fn runner(&self) -> Option<u8> {
         self.slots.runner()
+    }
+
+    fn running(&self) -> Option<Runner> {
+        self.slots.running()
+    }
+
+    fn slot(&self) -> u32 {
+        self.slots.slot()
     }
 
     fn excess(&self, env: u8) -> u32 {

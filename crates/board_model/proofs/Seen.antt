@@ -1,8 +1,9 @@
 -- What a board shows of its environments.
-use Rattle.std.proofs.Common.{◌≡◌, ◌≢◌, ℕ, ◌<◌, List, length, true, false, Option, Some, IfSome, refl, sym, ◌∙◌, ap, arith, rules}
+use Rattle.std.proofs.Common.{◌≡◌, ◌≢◌, ℕ, ◌<◌, List, length, true, false, Option, Some, IfSome, refl, sym, ◌∙◌, ap, arith, rules, inl, inr}
 use Rattle.std.specs.Prelude.{slice_get}
 use Rattle.std.proofs.lemmas.Bool.{ne_eqb, eq-eqb, and_parts}
 use Rattle.std.proofs.lemmas.Grind.{common_steps}
+use Rattle.std.proofs.lemmas.Option.{slice_get_cases}
 use Rattle.mips_exec.specs.declared.registers.Cpu.{Cpu}
 use Rattle.mips_exec.specs.Step.{step_of, view_of}
 use Rattle.env_frames.specs.declared.mapping.Mapping.{Mapping}
@@ -154,3 +155,27 @@ module _ (b : Shown) (e : ℕ) (x : Environment) (r : Runs b e x) where
 -- the pages that an environment of the board sees
 pub kept_seen : (b : Shown) (e : ℕ) → (solo_of b e).kept ≡ pages_seen b.frames (mappings_of b.roster.list e)
 kept_seen b e = grind arith
+
+-- where the VPNs of an environment with this record lead, whether it runs or not
+record_look : (b : Shown) (e v : ℕ) (x : Environment) → IsSoundBoard b → slice_get b.roster.list e ≡ Some x → look_of b e v ≡ sight (solo_seen b e x) v
+record_look b e v x sound at =
+    let its : mappings_of b.roster.list e ≡ x.env.mappings = ap mappings_in at in
+    opened_look b e v
+    ∙ ap (λ ms. look b.frames (mapping_in b.binds.version ms (stripe_of b e)) v) its
+    ∙ seen_look b.binds.version b.frames e (row_in b.pages) (stripe_of b e) x.env.mappings (solo_seen b e x) refl refl refl refl v
+    (λ a m there. guaranteed_there b.frames b.pages b.roster.list sound.memory e a m (ap (λ ms. slice_get ms a) its ∙ there))
+    (λ y found. bound_there b e v y sound found)
+
+-- each environment of the board has a record
+has_record : (list : List Environment) (e : ℕ) → e < length list → (x : Environment) × (slice_get list e ≡ Some x)
+has_record list e there =
+    elim ((slice_get_cases list e).1) [
+      | inl at ↦ (at.0, at.2)
+      | inr past ↦ absurd (omega (arith, past.0, there))
+    ]
+
+-- and of each environment
+pub env_look : (b : Shown) (e v : ℕ) → IsSoundBoard b → e < length b.roster.list → look_of b e v ≡ sight (solo_of b e) v
+env_look b e v sound there =
+    let x = has_record b.roster.list e there in
+    record_look b e v x.0 sound x.1 ∙ ap (λ (s : Solo). sight s v) (ap (solo_or_absent b e) (sym x.1))

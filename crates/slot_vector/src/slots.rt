@@ -304,6 +304,13 @@ impl Slots {
         Some(runner.env)
     }
 
+    /// Who runs, for how many ticks more, and whether in the slice or in grace; none where nobody runs.
+    pub fn running(&self) -> Option<Runner>
+        ensures { result ≡ self.now.runner }
+    {
+        self.runner
+    }
+
     /// The cursor: the slot of the turn that runs, or of the last one.
     pub fn slot(&self) -> u32
         ensures cursor { result ≡ self.now.cursor }

@@ -25,4 +25,4 @@ pub use registers::{
 pub use slot::{Phase, Runner, Turn, drop_refusal, take_refusal};
 pub use timer::Timer;
 pub use verdict::{HandlerNo, Verdict};
-pub use view::{PageView, WorldView};
+pub use view::{MappedView, PageView, WorldView};

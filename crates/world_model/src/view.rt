@@ -3,11 +3,16 @@ ghost use Rattle.std.specs.Prelude.{◌≡◌, ◌<◌, ◌≤◌, length, slice
 ghost use Rattle.std.specs.Option.{option_map};
 ghost use Rattle.world_model.specs.Book.{running};
 ghost use Rattle.aegis_limits.specs.Limits.{excess_limit, most_stripe_rows};
-ghost use Rattle.world_model.specs.View.{owned_bytes, view_seen};
+ghost use Rattle.env_frames.specs.Context.{handler_of};
+ghost use Rattle.world_model.specs.Solo.{sight};
+ghost use Rattle.world_model.specs.View.{mapped_seen, owned_bytes, view_seen};
 ghost use Rattle.world_model.specs.World.{World};
 
 use crate::life::Life;
+use crate::slot::Runner;
+use aegis_limits::Version;
 use bind_book::Binding;
+use env_frames::Context;
 use kernel_journal::Row;
 use mips_exec::Cpu;
 
@@ -19,11 +24,22 @@ pub struct PageView<'a> {
     pub bytes: &'a [u8],
 }
 
+/// A page that an environment sees at a VPN: whether it may be stored to, and its bytes.
+#[derive(Clone, Copy)]
+pub struct MappedView<'a> {
+    pub writable: bool,
+    pub bytes: &'a [u8],
+}
+
 /// What shows a world of the model, to be read. Environments are named by number; there are `envs()` of them, from 0
 /// on.
 pub trait WorldView {
     /// The world that it shows.
     ghost world: { Self → World };
+
+    /// The version of the image.
+    fn version(&self) -> Version
+        ensures { result ≡ (world self.now).book.version };
 
     /// How many environments there are.
     fn envs(&self) -> u8
@@ -47,6 +63,16 @@ pub trait WorldView {
     fn cpu(&self, env: u8) -> Cpu
         requires { env < (world self.now).count }
         ensures { result ≡ ((world self.now).solos env).cpu };
+
+    /// The mask of those from whom an environment accepts yields and transfers.
+    fn mask(&self, env: u8) -> u32
+        requires { env < (world self.now).count }
+        ensures { result ≡ ((world self.now).solos env).mask };
+
+    /// The handler of a context of an environment; 0 is none.
+    fn handler(&self, env: u8, context: Context) -> u32
+        requires { env < (world self.now).count }
+        ensures { result ≡ handler_of ((world self.now).solos env).handlers context };
 
     /// What an environment wrote to its console.
     fn console(&self, env: u8) -> &[u8]
@@ -90,9 +116,22 @@ pub trait WorldView {
         requires row { row < most_stripe_rows }
         ensures { result ≡ ((world self.now).solos env).binds row };
 
+    /// What an environment sees at a VPN, if a page is mapped there.
+    fn sight(&self, env: u8, vpn: u32) -> Option<MappedView<'_>>
+        requires { env < (world self.now).count }
+        ensures { option_map mapped_seen result ≡ sight ((world self.now).solos env) vpn };
+
     /// Who runs, if anybody does.
     fn runner(&self) -> Option<u8>
         ensures { result ≡ running (world self.now).book.runner };
+
+    /// Who runs, for how many ticks more, and whether in the slice or in grace; none where nobody runs.
+    fn running(&self) -> Option<Runner>
+        ensures { result ≡ (world self.now).book.runner };
+
+    /// The cursor: the slot of the turn that runs, or of the last one.
+    fn slot(&self) -> u32
+        ensures { result ≡ (world self.now).book.cursor };
 
     /// An environment's excess: the quanta that it ran past its slices and hasn't forfeited yet, 0 to 8.
     fn excess(&self, env: u8) -> u32
