@@ -6,7 +6,8 @@
 //! and each segment lies in its limits, so that the layers above test nothing again.
 //!
 //! A written file is exactly the layout of `docs/FORMATS.md`, "ELF files that Aegis writes": a file
-//! header, a program header for each part of the program, and the parts' bytes without gaps.
+//! header, a program header for each part of the program, and the parts' bytes without gaps. Its numbers and names
+//! serve who writes another kind of ELF file.
 #![tactic(auto)]
 
 mod elf;
@@ -23,7 +24,11 @@ mod writing;
 pub use elf::Elf;
 pub use fault::{ElfFault, ElfWhy};
 pub use law::{law_accepted_elf, law_reads_what_is_written};
+pub use layout::{
+    EXECUTE, FILE_HEADER_SIZE, IDENTIFICATION, LOADED, MIPS, PROGRAM_HEADER_SIZE, READ, VERSION,
+    WRITE,
+};
 pub use object::{Object, Part};
 pub use reading::read;
 pub use segment::Segment;
-pub use writing::write;
+pub use writing::{push_halves, push_words, write};

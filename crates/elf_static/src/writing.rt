@@ -120,9 +120,9 @@ fn push_bodies(file: &mut Vec<u8>, parts: &[Part]) -> Result<(), OutOfMemory>
     Ok(())
 }
 
-/// Numbers of two bytes each, the lowest byte first.
+/// Appends numbers of two bytes each, the lowest byte first.
 #[tactic(auto, unfolding(crate::specs::Layout::halves))]
-fn push_halves(file: &mut Vec<u8>, numbers: &[u16]) -> Result<(), OutOfMemory>
+pub fn push_halves(file: &mut Vec<u8>, numbers: &[u16]) -> Result<(), OutOfMemory>
     ensures { OnOk result (file.new.items ≡ file.old.items ++ halves numbers.now) }
 {
     for number in numbers {
@@ -131,9 +131,9 @@ fn push_halves(file: &mut Vec<u8>, numbers: &[u16]) -> Result<(), OutOfMemory>
     Ok(())
 }
 
-/// Numbers of four bytes each, the lowest byte first.
+/// Appends numbers of four bytes each, the lowest byte first.
 #[tactic(auto, unfolding(crate::specs::Layout::words))]
-fn push_words(file: &mut Vec<u8>, numbers: &[u32]) -> Result<(), OutOfMemory>
+pub fn push_words(file: &mut Vec<u8>, numbers: &[u32]) -> Result<(), OutOfMemory>
     ensures { OnOk result (file.new.items ≡ file.old.items ++ words numbers.now) }
 {
     for number in numbers {
