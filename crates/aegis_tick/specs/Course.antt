@@ -1,5 +1,5 @@
 -- The course of a run: what happens in it, and how far it came where memory ran out.
-use Rattle.std.specs.Prelude.{◌≡◌, ℕ, ◌+◌, ◌*◌, ◌<◌, ◌≤◌, List, map, take, false, Result, IsOk}
+use Rattle.std.specs.Prelude.{◌≡◌, ◌⊎◌, ℕ, ◌+◌, ◌*◌, ◌<◌, ◌≤◌, List, length, map, take, false, Result, IsOk}
 use Rattle.external_event.specs.declared.event.Occurrence.{Occurrence}
 use Rattle.world_model.specs.Book.{is_idle_book}
 use Rattle.world_model.specs.Event.{happen}
@@ -19,6 +19,14 @@ pub record IsCutOff (system : System) (ticks : ℕ) (v : World) : Type 0 where
   pub busy : is_idle_book (world_after system done).book ≡ false
   pub events : ℕ
   pub is : v ≡ (let w = world_after system done in world_with (take events (happens_in system.schedule w)) w)
+
+-- the rows of the ledger that a long run may have
+abbrev pub most_long_rows : ℕ
+most_long_rows = 16777216
+
+-- A long run was cut off, or its ledger has more rows than it may have.
+abbrev pub IsCutShort : System → ℕ → World → Type 0
+IsCutShort system ticks v = IsCutOff system ticks v ⊎ (most_long_rows < length v.rows)
 
 -- Some first ones of these have happened.
 abbrev pub HappenedInPart : List Occurrence → World → World → Type 0

@@ -15,7 +15,7 @@ ghost use Rattle.run_model.specs.Run.{end_of_run, happens_in, world_after};
 ghost use Rattle.tlb_course.specs.Course.{cache_after};
 ghost use Rattle.aegis_tick.specs.Agenda.{AreComing, occurrences};
 ghost use Rattle.aegis_tick.specs.Halves.{second_half};
-ghost use Rattle.aegis_tick.specs.Course.{IsCutOff, IsSure};
+ghost use Rattle.aegis_tick.specs.Course.{IsCutOff, IsCutShort, IsSure};
 
 use crate::agenda::Agenda;
 use crate::booting::boot;
@@ -32,6 +32,12 @@ use run_model::law_accounts;
 use std::alloc::Global;
 use tlb_course::law_further;
 use world_model::WorldView;
+
+/// The rows of the ledger that a long run may have.
+pub const MOST_LONG_ROWS: usize = 16_777_216;
+
+/// After how many ticks a long run looks at its rows again.
+const TICKS_BETWEEN_LOOKS: u32 = 65_536;
 
 /// A run: its board, the events that are to come, and by what the runner enters the kernel in the next tick, where that is
 /// known.
@@ -183,16 +189,22 @@ impl<'i, 'b, 'e> Course<'i, 'b, 'e> {
 
     /// Runs on until so many ticks are made in all, in which the events happen, each at the beginning of the tick of its
     /// time. An idle board stays as it is, and no event happens on it. The run ends at the limit exactly where the time
-    /// reached it, else because the board is idle. After a refusal the board is that of a whole number of ticks, and of
-    /// some first events of the next. What environments ran past their slices by the ledger, they forfeited by it or still
-    /// owe. Where `TICK_ROWS` rows are spare for each event and each tick it takes no memory and isn't refused.
+    /// reached it, else because the board is idle; it may go on to a later limit. After a refusal the board is that of a
+    /// whole number of ticks, and of some first events of the next. What environments ran past their slices by the ledger,
+    /// they forfeited by it or still owe. Where `TICK_ROWS` rows are spare for each event and each tick it takes no memory
+    /// and isn't refused.
     pub fn run(&mut self, ticks: u32) -> Result<RunEnd, OutOfMemory>
         requires on { IsOn self.old }
         requires cached { IsCached self.old }
         requires within { self.old.board.time ≤ ticks }
         requires limit { ticks ≤ most_ticks }
+        ensures on { OnOk result (IsOn self.new) }
+        ensures cached { OnOk result (IsCached self.new) }
+        ensures reached { OnOk result (self.new.board.time ≤ ticks) }
+        ensures system { system_of self.new ≡ system_of self.old }
         ensures world { OnOk result (world_of self.new.board ≡ world_after (system_of self.old) ticks) }
         ensures tlb { OnOk result (self.new.board.tlb ≡ cache_after (system_of self.old) ticks) }
+        ensures idle { OnOk result (self.new.board.time < ticks → is_idle_book (world_of self.new.board).book ≡ true) }
         ensures end { IfOk result (λ end. end ≡ end_of_run (world_of self.new.board) ticks) }
         ensures cut { OnErr result (IsCutOff (system_of self.old) ticks (world_of self.new.board)) }
         ensures cut_tlb { OnErr result (self.new.board.tlb ≡ cache_after (system_of self.old) self.new.board.time) }
@@ -207,5 +219,33 @@ impl<'i, 'b, 'e> Course<'i, 'b, 'e> {
             self.glide(left);
         }
         Ok(end_of_run(&self.board, ticks))
+    }
+
+    /// Runs on as `run` does, but gives up once the ledger has more than `MOST_LONG_ROWS` rows. It looks at them now and
+    /// then, so there may be some more.
+    pub fn run_long(&mut self, ticks: u32) -> Result<RunEnd, OutOfMemory>
+        requires on { IsOn self.old }
+        requires cached { IsCached self.old }
+        requires within { self.old.board.time ≤ ticks }
+        requires limit { ticks ≤ most_ticks }
+        ensures on { OnOk result (IsOn self.new) }
+        ensures cached { OnOk result (IsCached self.new) }
+        ensures reached { OnOk result (self.new.board.time ≤ ticks) }
+        ensures system { system_of self.new ≡ system_of self.old }
+        ensures world { OnOk result (world_of self.new.board ≡ world_after (system_of self.old) ticks) }
+        ensures tlb { OnOk result (self.new.board.tlb ≡ cache_after (system_of self.old) ticks) }
+        ensures idle { OnOk result (self.new.board.time < ticks → is_idle_book (world_of self.new.board).book ≡ true) }
+        ensures end { IfOk result (λ end. end ≡ end_of_run (world_of self.new.board) ticks) }
+        ensures cut { OnErr result (IsCutShort (system_of self.old) ticks (world_of self.new.board)) }
+    {
+        let mut until = self.board.time();
+        while until < ticks {
+            until = ticks.min(until + TICKS_BETWEEN_LOOKS);
+            self.run(until)?;
+            if self.board.journal().len() > MOST_LONG_ROWS {
+                return Err(OutOfMemory);
+            }
+        }
+        self.run(ticks)
     }
 }
