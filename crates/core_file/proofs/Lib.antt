@@ -1,0 +1,2 @@
+mod Clear
+mod Adding

@@ -1,0 +1,5 @@
+pub mod Pages
+pub mod Runs
+pub mod Notes
+pub mod Core
+pub mod Seen
