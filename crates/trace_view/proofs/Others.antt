@@ -1,6 +1,6 @@
 -- Ticks of other environments have no line.
 use Rattle.std.proofs.Common.{◌≡◌, ◌≢◌, ◌<◌, ◌≤◌, ℕ, zero, suc, ◌+◌, List, [], Bool, false, Option, Some, refl, sym, ◌∙◌, ap, subst, add-zero, add-suc, arith, rules}
-use Rattle.std.specs.Prelude.{◌&&◌, map}
+use Rattle.std.specs.Prelude.{◌&&◌, if◌then◌else◌, map, nat_le}
 use Rattle.std.proofs.lemmas.Bool.{ne_eqb}
 use Rattle.std.proofs.lemmas.List.{append-nil}
 use Rattle.external_event.specs.declared.event.Occurrence.{Occurrence}
@@ -16,13 +16,16 @@ use Rattle.board_model.specs.Stretch.{AreSteady, IsAtStep, IsQuiet}
 use Rattle.aegis_tick.specs.Halves.{first_half, mid}
 use Rattle.tlb_course.specs.Further.{WorldsGoOn}
 use Rattle.trace_view.specs.Others.{AnotherRuns}
-use Rattle.trace_view.specs.Trace.{line_in, lines_in, tick_line}
+use Rattle.trace_view.specs.Trace.{line_from, line_in, trace_lines, tick_line}
 
 other_runner : (e r : ℕ) (o : Option Runner) → running o ≡ Some r → r ≢ e → is_runner e o ≡ false
 other_runner e r o runs other = search (rules, ne_eqb)
 
 none_and : (a b : Bool) → b ≡ false → a && b ≡ false
 none_and a b none = search rules
+
+none_if : (t : Bool) (xs : List ℕ) → xs ≡ [] → (if t then xs else []) ≡ []
+none_if t xs none = search rules
 
 busy : (r : ℕ) (b : Book) → running b.runner ≡ Some r → is_idle_book b ≡ false
 busy r b runs = search rules
@@ -33,7 +36,7 @@ no_line schedule v u e r nothing step runs other =
     let middle : mid schedule v ≡ v = ap (λ (xs : List Occurrence). first_half (run_phases v (map happen xs))) nothing ∙ step in
     ap (λ (m : World). tick_line e m u) middle ∙ rw (other_runner e r v.book.runner runs other, none_and) refl
 
-module _ (times : TimeIsTick) (further : WorldsGoOn) (system : System) (start : (boot_world system.image).book.time ≡ 0) (b : Shown) (e t k : ℕ)
+module _ (times : TimeIsTick) (further : WorldsGoOn) (system : System) (start : (boot_world system.image).book.time ≡ 0) (b : Shown) (e from t k : ℕ)
     (at : world_of b ≡ world_after system t) (quiet : IsQuiet system.schedule t (t + k)) (steady : 0 < k → AreSteady b system.schedule k)
     (others : 0 < k → AnotherRuns e (world_of b)) where
   there : (i : ℕ) → world_after_ticks system.schedule (world_of b) i ≡ world_after system (t + i)
@@ -53,9 +56,12 @@ module _ (times : TimeIsTick) (further : WorldsGoOn) (system : System) (start : 
       (subst IsAtStep (there i) ((steady some).at_step i less))
       runs another.2
 
-  lines_until : (i : ℕ) → i ≤ k → lines_in system e (t + i) ≡ lines_in system e t
-  lines_until zero within = rw add-zero refl
-  lines_until (suc i) within = rw (add-suc, line_at i (omega arith), append-nil) (lines_until i (omega arith))
+  no_line_from : (i : ℕ) → i < k → line_from system e from (t + i) ≡ []
+  no_line_from i less = none_if (nat_le from (t + i)) (line_in system e (t + i)) (line_at i less)
 
-  pub no_lines : lines_in system e (t + k) ≡ lines_in system e t
+  lines_until : (i : ℕ) → i ≤ k → trace_lines system e from (t + i) ≡ trace_lines system e from t
+  lines_until zero within = rw add-zero refl
+  lines_until (suc i) within = rw (add-suc, no_line_from i (omega arith), append-nil) (lines_until i (omega arith))
+
+  pub no_lines : trace_lines system e from (t + k) ≡ trace_lines system e from t
   no_lines = lines_until k (omega arith)

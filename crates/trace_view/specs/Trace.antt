@@ -1,5 +1,5 @@
 -- The trace of an environment: a line for each tick in which it makes a step.
-use Rattle.std.specs.Prelude.{ℕ, List, [], ◌∷◌, ◌++◌, codes, if◌then◌else◌, ◌&&◌, nat_lt, Bool, Option, Some, None, Result, Ok, Err}
+use Rattle.std.specs.Prelude.{ℕ, List, [], ◌∷◌, ◌++◌, codes, if◌then◌else◌, ◌&&◌, nat_le, nat_lt, Bool, Option, Some, None, Result, Ok, Err}
 use Rattle.external_event.specs.EventValue.{EventValue}
 use Rattle.line_text.specs.Text.{dec_text, hex_text}
 use Rattle.line_text.specs.WrittenLine.{line}
@@ -54,15 +54,19 @@ tick_line e w v = if makes_step e w then step_line e w v else []
 abbrev pub line_in : System → ℕ → ℕ → List ℕ
 line_in system e t = let now = world_after system t in tick_line e (mid system.schedule now) (next_world system.schedule now)
 
--- the lines of so many ticks of a run
-abbrev pub lines_in : System → ℕ → ℕ → List ℕ
-lines_in system e ticks = for_each (line_in system e) ticks
+-- and if it isn't before the tick from which on there are lines
+abbrev pub line_from : System → (e from t : ℕ) → List ℕ
+line_from system e from t = if nat_le from t then line_in system e t else []
 
--- the trace of an environment in a run of so many ticks: a line for each tick below its end
-unfoldable pub trace_text : ImageValue → List EventValue → ℕ → ℕ → List ℕ
-trace_text image events limit e =
+-- the lines of so many ticks of a run, from one of them on
+abbrev pub trace_lines : System → (e from ticks : ℕ) → List ℕ
+trace_lines system e from ticks = for_each (line_from system e from) ticks
+
+-- the trace of an environment in a run of so many ticks: a line for each tick below its end, from one on
+unfoldable pub trace_text : ImageValue → List EventValue → (from limit e : ℕ) → List ℕ
+trace_text image events from limit e =
     let system : System = record { image = image; schedule = schedule_of events } in
     let w = world_after system limit in
     line (codes "aegis" ∷ codes "trace" ∷ dec_text e ∷ [])
-    ++ lines_in system e w.book.time
+    ++ trace_lines system e from w.book.time
     ++ end_line w (end_of_run w limit) ++ line (codes "done" ∷ [])

@@ -1,6 +1,6 @@
-//! The trace of an environment: a line for each of its steps in a run, with the instruction and what it changed. Each
-//! line is proved to be its definition in `specs/Trace.antt`, and a trace to have the lines of the whole run, in their
-//! order (`docs/REPORT.md`, "The trace").
+//! The trace of an environment: a line for each of its steps in a run, from a tick on, with the instruction and what it
+//! changed. Each line is proved to be its definition in `specs/Trace.antt`, and a trace to have the lines of all these
+//! ticks, in their order (`docs/REPORT.md`, "The trace").
 #![tactic(auto)]
 
 mod fetch;
@@ -9,5 +9,5 @@ mod step;
 
 pub use run::trace;
 
-/// The most ticks of a run of which a trace is written.
+/// The most ticks that one trace has.
 pub const MOST_TRACED_TICKS: u32 = 262_144;

@@ -1,7 +1,6 @@
 //! The trace of a whole run.
 ghost use Rattle.std.specs.Prelude.{◌≡◌, ◌++◌, [], ◌∷◌, ◌≤◌, ◌<◌, ◌+◌, codes, false, IfOk, OnOk, true};
 ghost use Rattle.aegis_limits.specs.Limits.{most_ticks};
-ghost use Rattle.trace_view.specs.Limit.{most_traced_ticks};
 ghost use Rattle.external_event.specs.Order.{are_in_order};
 ghost use Rattle.line_text.specs.Text.{dec_text};
 ghost use Rattle.line_text.specs.WrittenLine.{line};
@@ -11,7 +10,7 @@ ghost use Rattle.board_model.specs.Showing.{world_of};
 ghost use Rattle.board_model.specs.Stretch.{AreSteady, IsQuiet};
 ghost use Rattle.aegis_tick.specs.OnCourse.{IsMidway, IsOn, system_of};
 ghost use Rattle.trace_view.specs.Others.{AnotherRuns};
-ghost use Rattle.trace_view.specs.Trace.{line_in, lines_in, tick_line, trace_text};
+ghost use Rattle.trace_view.specs.Trace.{line_in, trace_lines, tick_line, trace_text};
 
 use crate::step::push_step;
 use aegis_limits::OutOfMemory;
@@ -74,18 +73,21 @@ fn pass_others(course: &mut Course<'_, '_, '_>, env: u8, most: u32) -> u32
     }
 }
 
-/// Makes the ticks of a run up to a limit, or fewer where the board is idle before, and appends the lines of the
+/// Makes the ticks of a run from one on up to a limit, or fewer where the board is idle before, and appends the lines of the
 /// environment's steps.
 fn push_ticks(
     out: &mut Vec<u8>,
     course: &mut Course<'_, '_, '_>,
+    from: u32,
     ticks: u32,
     env: u8,
 ) -> Result<(), OutOfMemory>
     requires on { IsOn course.old }
-    requires begins { course.old.board.time ≡ 0 }
-    requires limit { ticks ≤ most_traced_ticks }
-    ensures text { OnOk result (out.new.items ≡ out.old.items ++ lines_in (system_of course.old) env course.new.board.time) }
+    requires begins { course.old.board.time ≤ from }
+    requires idle { course.old.board.time < from → is_idle_book (world_of course.old.board).book ≡ true }
+    requires within { from ≤ ticks }
+    requires limit { ticks ≤ most_ticks }
+    ensures text { OnOk result (out.new.items ≡ out.old.items ++ trace_lines (system_of course.old) env from course.new.board.time) }
     ensures world { OnOk result (world_of course.new.board ≡ world_after (system_of course.old) ticks) }
 {
     law_idle();
@@ -109,24 +111,27 @@ fn push_heading(out: &mut Vec<u8>, env: u8) -> Result<(), OutOfMemory>
 }
 
 /// The trace of an environment in a run of an image for so many ticks, in which these events happen
-/// (`docs/REPORT.md`, "The trace"): a line for each tick in which it makes a step, and how the run ended. An environment
-/// that the image lacks has no line. Ticks go up to `MOST_TRACED_TICKS`.
+/// (`docs/REPORT.md`, "The trace"): a line for each tick, from one on, in which it makes a step, and how the run ended. An
+/// environment that the image lacks has no line.
 #[tactic(auto, unfolding(crate::specs::Trace::trace_text))]
 pub fn trace(
     alloc: Global,
     image: &Image<'_>,
     events: &[Event],
+    from: u32,
     ticks: u32,
     env: u8,
 ) -> Result<Vec<u8>, OutOfMemory>
     requires order { are_in_order 0 events.now ≡ true }
-    requires limit { ticks ≤ most_traced_ticks }
-    ensures { IfOk result (λ text. text.items ≡ trace_text image.now events.now ticks env) }
+    requires within { from ≤ ticks }
+    requires limit { ticks ≤ most_ticks }
+    ensures { IfOk result (λ text. text.items ≡ trace_text image.now events.now from ticks env) }
 {
     let mut course = Course::boot(alloc, image, events)?;
+    course.run_long(from)?;
     let mut out = Vec::new(alloc);
     push_heading(&mut out, env)?;
-    push_ticks(&mut out, &mut course, ticks, env)?;
+    push_ticks(&mut out, &mut course, from, ticks, env)?;
     push_end_line(&mut out, &course.board, end_of_run(&course.board, ticks))?;
     push_word(&mut out, Word::Text(b"done\n"))?;
     Ok(out)
