@@ -13,12 +13,11 @@ use Rattle.commands.specs.Files.{AreRead, AreTold}
 use Rattle.commands.specs.Due.{Due, Refusal, Whole, Found, due_text, status_of}
 use Rattle.commands.specs.Outcome.{Decided, IsWhole, IsPart, Outcome, Finished, Wrote}
 use Rattle.commands.specs.Work.{Performed}
-use Rattle.aegis_command.specs.Headline.{NoFault, Ends, IsComplete, IsHeadline, IsLoad, IsReadHeadline, TakesAll, IsWanting, WroteReport}
+use Rattle.aegis_command.specs.Headline.{AsksRun, NoFault, Ends, IsComplete, IsHeadline, IsLoad, IsReadHeadline, TakesAll, IsWanting, WroteReport}
 use Rattle.std.specs.Io.KnownBytes.{Appends}
 use Rattle.std.specs.Option.{option_map}
 use Rattle.aegis_command.specs.Words.{command_of}
 use Rattle.aegis_command.specs.LoadSeed.{load_seed}
-use Rattle.aegis_command.specs.Ranges.{ticks_of}
 use Rattle.aegis_command.specs.RunImage.{report_after, run_due, run_image, run_writing}
 use Rattle.aegis_command.specs.SystemDue.{FileNames, system_command}
 
@@ -100,16 +99,17 @@ due_whole : (names : FileNames) (ticks : ℕ) (image schedule : List ℕ) → im
 due_whole names ticks image schedule image_ok schedule_ok = rw (image_ok, schedule_ok) refl
 
 -- the words of a run are those of its command
-run_asked : (words : List (List ℕ)) (names : FileNames) (number : List ℕ) (ticks : ℕ) → words ≡ codes "run" ∷ names.image ∷ names.schedule ∷ number ∷ [] → ticks_of number ≡ Some ticks
-    → command_of words ≡ Some (run_image names ticks)
-run_asked words names number ticks are ticks_are =
-    ap command_of are ∙ ap (λ (t : Option ℕ). option_map (system_command names) (option_map run_writing t)) ticks_are
+run_asked : (words : List (List ℕ)) (names : FileNames) (ticks : ℕ) → AsksRun words names.image names.schedule ticks → command_of words ≡ Some (run_image names ticks)
+run_asked words names ticks (number, inl run) =
+    ap command_of run.0 ∙ ap (λ (t : Option ℕ). option_map (system_command names) (option_map run_writing t)) run.1
+run_asked words names ticks (number, inr long) =
+    ap command_of long.0 ∙ ap (λ (t : Option ℕ). option_map (system_command names) (option_map run_writing t)) long.1
 
 -- the headline is completeness for an image and a schedule without fault
 pub is_headline : (words : List (List ℕ)) (s : ShelfEdge) (k : SinkEdge) (result : Status) → IfSome (command_of words) (λ c. Outcome c s k result) → IsHeadline words s k result
-is_headline words s k result outcome image_name schedule_name number ticks files image schedule are ticks_are told image_is schedule_is image_ok schedule_ok calm =
+is_headline words s k result outcome image_name schedule_name ticks files image schedule asks told image_is schedule_is image_ok schedule_ok calm =
     let names : FileNames = record { image = image_name; schedule = schedule_name } in
-    let is = run_asked words names number ticks are ticks_are in
+    let is = run_asked words names ticks asks in
     let due = due_whole names ticks image schedule image_ok schedule_ok in
     let read : AreTold s.told (image_name ∷ schedule_name ∷ []) (image ∷ schedule ∷ []) = subst (λ (t : Option (List ℕ → Option (List ℕ))). AreTold t (image_name ∷ schedule_name ∷ []) (image ∷ schedule ∷ [])) (sym told) (image_is, (schedule_is, tt)) in
     subst (λ (d : Option Due). Ends d k result) due (is_complete (command_of words) s k result outcome (run_image names ticks) (image ∷ schedule ∷ []) is read calm)
@@ -141,9 +141,9 @@ wrote_report names ticks s k result decided settled whole =
 
 -- the headline by what was read
 pub is_read_headline : (words : List (List ℕ)) (s : ShelfEdge) (k : SinkEdge) (result : Status) → IfSome (command_of words) (λ c. Outcome c s k result) → IsReadHeadline words s k result
-is_read_headline words s k result outcome image_name schedule_name number ticks are ticks_are calm =
+is_read_headline words s k result outcome image_name schedule_name ticks asks calm =
     let names : FileNames = record { image = image_name; schedule = schedule_name } in
-    let is = run_asked words names number ticks are ticks_are in
+    let is = run_asked words names ticks asks in
     let run = run_image names ticks in
     elim (wrote run s k result (subst (λ (o : Option CommandValue). IfSome o (λ c. Outcome c s k result)) is outcome) calm) as (λ w. WroteReport image_name schedule_name ticks s k result ⊎ IsWanting k result) [
       | inl w ↦ inl (wrote_report names ticks s k result w.0 w.1 w.2)

@@ -12,7 +12,7 @@ use Rattle.commands.specs.Due.{Due, status_of, due_text, usage_text}
 use Rattle.commands.specs.Edges.{ShelfEdge, SinkEdge}
 use Rattle.commands.specs.Files.{AreTold, IsServed}
 use Rattle.aegis_command.specs.LoadSeed.{load_summary, seed_of}
-use Rattle.aegis_command.specs.Ranges.{ticks_of}
+use Rattle.aegis_command.specs.Ranges.{long_ticks_of, ticks_of}
 use Rattle.aegis_command.specs.RunImage.{report_after}
 
 -- neither count of faults rose in the call
@@ -60,15 +60,20 @@ IsComplete words s k result =
     → AreTold s.told (names_of command contents) contents → NoFault s k →
     Ends (command.due contents) k result
 
--- The headline: for the words `run IMAGE SCHEDULE TICKS`, every image and schedule without fault and every number of
+-- `run IMAGE SCHEDULE TICKS`, or `long IMAGE SCHEDULE TICKS`, whose ticks may be more
+abbrev pub AsksRun : List (List ℕ) → (image_name schedule_name : List ℕ) → ℕ → Type 0
+AsksRun words image_name schedule_name ticks =
+    (number : List ℕ) ×
+    (((words ≡ codes "run" ∷ image_name ∷ schedule_name ∷ number ∷ []) × (ticks_of number ≡ Some ticks))
+    ⊎ ((words ≡ codes "long" ∷ image_name ∷ schedule_name ∷ number ∷ []) × (long_ticks_of number ≡ Some ticks)))
+
+-- The headline: for the words of `run` and of `long`, every image and schedule without fault and every number of
 -- ticks, where no fault is met, the bytes that are written are the report of the image's world after so many ticks, in
 -- which the schedule's events happen, or memory was wanting.
 abbrev pub IsHeadline : List (List ℕ) → ShelfEdge → SinkEdge → Status → Type 0
 IsHeadline words s k result =
-    (image_name schedule_name number : List ℕ) (ticks : ℕ) (files : List ℕ → Option (List ℕ))
-    (image schedule : List ℕ) →
-    words ≡ codes "run" ∷ image_name ∷ schedule_name ∷ number ∷ [] → ticks_of number ≡ Some ticks
-    → s.told ≡ Some files →
+    (image_name schedule_name : List ℕ) (ticks : ℕ) (files : List ℕ → Option (List ℕ))
+    (image schedule : List ℕ) → AsksRun words image_name schedule_name ticks → s.told ≡ Some files →
     files image_name ≡ Some image → files schedule_name ≡ Some schedule →
     image_fault image ≡ None → schedule_fault schedule ≡ None → NoFault s k →
     IsWritten status.Done (report_after (image_of image) (events_of schedule) ticks) k result ⊎ IsWanting k result
@@ -84,14 +89,12 @@ pub record WroteReport (image_name schedule_name : List ℕ) (ticks : ℕ) (s : 
   pub report : image_fault image ≡ None → schedule_fault schedule ≡ None
       → IsWritten status.Done (report_after (image_of image) (events_of schedule) ticks) k result
 
--- The headline by what was read, also of a shelf that tells nothing of its files, as the host's: for the words
--- `run IMAGE SCHEDULE TICKS`, where no fault is met, the two files of these names were read, and what is written is the
+-- The headline by what was read, also of a shelf that tells nothing of its files, as the host's: for the words of `run`
+-- and of `long`, where no fault is met, the two files of these names were read, and what is written is the
 -- report of what the reads gave, or memory was wanting.
 abbrev pub IsReadHeadline : List (List ℕ) → ShelfEdge → SinkEdge → Status → Type 0
 IsReadHeadline words s k result =
-    (image_name schedule_name number : List ℕ) (ticks : ℕ)
-    → words ≡ codes "run" ∷ image_name ∷ schedule_name ∷ number ∷ [] → ticks_of number ≡ Some ticks →
-    NoFault s k → WroteReport image_name schedule_name ticks s k result ⊎ IsWanting k result
+    (image_name schedule_name : List ℕ) (ticks : ℕ) → AsksRun words image_name schedule_name ticks → NoFault s k → WroteReport image_name schedule_name ticks s k result ⊎ IsWanting k result
 
 -- For the words `load SEED`, where no fault is met, the run of the seed's image and events is written in short, or
 -- memory was wanting. There is no file that could be refused.

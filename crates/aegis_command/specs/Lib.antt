@@ -3,10 +3,12 @@ pub mod SystemDue
 pub mod SystemFiles
 pub mod SystemCommand
 pub mod RunImage
+pub mod LongRun
 pub mod LoadSeed
 pub mod AuditLedger
 pub mod TlbImage
 pub mod TraceEnv
+pub mod CoreEnv
 pub mod TwinSystems
 pub mod RunBare
 pub mod WireMachines

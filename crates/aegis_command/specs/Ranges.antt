@@ -1,8 +1,7 @@
 -- The numbers that words give, each with its limits.
 use Rattle.std.specs.Prelude.{ℕ, ◌-◌, List, Option, Some, None, nat_le, ◌&&◌, if◌then◌else◌}
-use Rattle.aegis_limits.specs.Limits.{environment_numbers, least_quantum, most_quantum, most_run_ticks}
+use Rattle.aegis_limits.specs.Limits.{environment_numbers, least_quantum, most_quantum, most_run_ticks, most_ticks}
 use Rattle.line_text.specs.Number.{digits_number}
-use Rattle.trace_view.specs.Limit.{most_traced_ticks}
 use Rattle.twin_run.specs.Limit.{most_compared_slices}
 use Rattle.wire_model.specs.Limits.{most_delay, most_wire_ticks}
 
@@ -15,12 +14,12 @@ within least most (Some n) = if nat_le least n && nat_le n most then Some n else
 abbrev pub ranged_of : (least most : ℕ) → List ℕ → Option ℕ
 ranged_of least most word = within least most (digits_number 10 10 word)
 
--- TICKS of a run, of a trace, and on a wire
+-- TICKS of a run, of a long one, and on a wire
 abbrev pub ticks_of : List ℕ → Option ℕ
 ticks_of word = ranged_of 0 most_run_ticks word
 
-abbrev pub traced_ticks_of : List ℕ → Option ℕ
-traced_ticks_of word = ranged_of 0 most_traced_ticks word
+abbrev pub long_ticks_of : List ℕ → Option ℕ
+long_ticks_of word = ranged_of 0 most_ticks word
 
 abbrev pub wire_ticks_of : List ℕ → Option ℕ
 wire_ticks_of word = ranged_of 0 most_wire_ticks word

@@ -7,9 +7,11 @@ use Rattle.commands.specs.Command.{CommandValue, of_one_name}
 use Rattle.commands.specs.ListElf.{list_elf}
 use Rattle.commands.specs.MakeImage.{make_image}
 use Rattle.aegis_command.specs.declared.words.Words.{Words}
-use Rattle.aegis_command.specs.declared.words.Words.TheVariants.{RunImage, Asm, ListElf, MakeImage, LoadSeed, AuditLedger, TraceEnv, RunBare, WireMachines, TlbImage, TwinSystems}
+use Rattle.aegis_command.specs.declared.words.Words.TheVariants.{RunImage, Asm, ListElf, MakeImage, LoadSeed, AuditLedger, TraceEnv, RunBare, WireMachines, TlbImage, TwinSystems, LongRun, CoreEnv}
 use Rattle.aegis_command.specs.AuditLedger.{audit_seen, audit_words}
+use Rattle.aegis_command.specs.CoreEnv.{core_seen, core_words}
 use Rattle.aegis_command.specs.LoadSeed.{load_seed, load_words}
+use Rattle.aegis_command.specs.LongRun.{long_words, long_writing}
 use Rattle.aegis_command.specs.RunBare.{bare_seen, bare_words}
 use Rattle.aegis_command.specs.RunImage.{report_writing, run_words}
 use Rattle.aegis_command.specs.SystemCommand.{system_seen}
@@ -33,7 +35,9 @@ command_of (word ∷ words) =
     if bytes_eq word (codes "bare") then bare_words words else
     if bytes_eq word (codes "wire") then wire_words words else
     if bytes_eq word (codes "tlb") then tlb_words words else
-    if bytes_eq word (codes "twin") then twin_words words else None
+    if bytes_eq word (codes "twin") then twin_words words else
+    if bytes_eq word (codes "long") then long_words words else
+    if bytes_eq word (codes "core") then core_words words else None
 
 -- the words as texts
 abbrev pub texts_of : List (String Global) → List (List ℕ)
@@ -56,3 +60,5 @@ command_seen (RunBare c) = bare_seen c
 command_seen (WireMachines c) = wire_seen c
 command_seen (TlbImage c) = system_seen report_and_tlb_writing c
 command_seen (TwinSystems c) = twin_seen c
+command_seen (LongRun c) = system_seen long_writing c
+command_seen (CoreEnv c) = core_seen c

@@ -6,7 +6,7 @@ ghost use Rattle.run_model.specs.Run.{end_of_run, world_after};
 ghost use Rattle.tlb_course.specs.Course.{cache_after};
 ghost use Rattle.aegis_command.specs.SystemDue.{meant};
 
-use crate::ranged::Ticks;
+use crate::ranged::{LongTicks, Ticks};
 use aegis_calls::Board;
 use aegis_limits::OutOfMemory;
 use aegis_tick::Course;
@@ -40,6 +40,26 @@ pub(crate) fn ended_run(
     let end = course.run(ticks.number)?;
     Ok(EndedRun {
         board: course.board,
+        end,
+    })
+}
+
+/// The run of an image for so many ticks as a long one may have, and so many rows.
+pub(crate) fn ended_long_run(
+    alloc: Global,
+    image: &Image<'_>,
+    events: &[Event],
+    ticks: LongTicks,
+) -> Result<EndedRun, OutOfMemory>
+    requires { are_in_order 0 events.now ≡ true }
+    ensures world { IfOk result (λ run. world_of run.board ≡ world_after (meant image.now events.now) ticks.number) }
+    ensures tlb { IfOk result (λ run. run.board.tlb ≡ cache_after (meant image.now events.now) ticks.number) }
+    ensures end { IfOk result (λ run. run.end ≡ end_of_run (world_after (meant image.now events.now) ticks.number) ticks.number) }
+{
+    let mut long = Course::boot(alloc, image, events)?;
+    let end = long.run_long(ticks.number)?;
+    Ok(EndedRun {
+        board: long.board,
         end,
     })
 }

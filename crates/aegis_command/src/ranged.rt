@@ -1,9 +1,8 @@
 //! A number with a least and a most, as the words give it.
 ghost use Rattle.std.specs.Prelude.{◌≡◌, ◌≤◌, option_map};
 
-use aegis_limits::{LEAST_QUANTUM, MOST_QUANTUM, MOST_RUN_TICKS};
+use aegis_limits::{LEAST_QUANTUM, MOST_QUANTUM, MOST_RUN_TICKS, MOST_TICKS};
 use line_text::decimal;
-use trace_view::MOST_TRACED_TICKS;
 use twin_run::MOST_COMPARED_SLICES;
 use wire_model::{MOST_DELAY, MOST_WIRE_TICKS};
 
@@ -19,8 +18,8 @@ pub struct Ranged<const LEAST: u32, const MOST: u32> {
 /// The ticks of a run.
 pub type Ticks = Ranged<0, MOST_RUN_TICKS>;
 
-/// The ticks of a run of which a trace is written.
-pub type TracedTicks = Ranged<0, MOST_TRACED_TICKS>;
+/// The ticks of a long run.
+pub type LongTicks = Ranged<0, MOST_TICKS>;
 
 /// The ticks of a run on a wire.
 pub type WireTicks = Ranged<0, MOST_WIRE_TICKS>;

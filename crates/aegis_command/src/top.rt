@@ -52,7 +52,7 @@ pub fn aegis<S: Shelf, K: Sink>(
     shelf: &mut S,
     out: &mut K,
 ) -> Status
-    // The headline: what run writes is the report of the world.
+    // The headline: what run and long write is the report of the world.
     ensures headline { IsHeadline (texts_of words.now) (shelf_edge S.Shelf shelf.old shelf.new) (sink_edge K.Sink out.old out.new) result }
 
     // The same by what was read, also where the shelf tells nothing of its files, as the host's.

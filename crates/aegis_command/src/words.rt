@@ -8,7 +8,9 @@ ghost use Rattle.commands.specs.Work.{Performed, Stopped, StopsByWantAlone};
 ghost use Rattle.aegis_command.specs.Words.{asked_by, command_seen};
 
 use crate::audit_ledger::AuditLedger;
+use crate::core_env::CoreEnv;
 use crate::load_seed::LoadSeed;
+use crate::long_run::LongReport;
 use crate::run_bare::RunBare;
 use crate::run_image::Report;
 use crate::system_command::SystemCommand;
@@ -35,7 +37,7 @@ pub enum Words<'a> {
     LoadSeed(LoadSeed),
     /// `audit REPORT QUANTUM`, and a plan or none.
     AuditLedger(AuditLedger<'a>),
-    /// `trace IMAGE SCHEDULE TICKS ENV`.
+    /// `trace IMAGE SCHEDULE TICKS ENV`, and `FROM` or none.
     TraceEnv(SystemCommand<'a, Trace>),
     /// `bare FILE TICKS PERIOD`.
     RunBare(RunBare<'a>),
@@ -45,6 +47,10 @@ pub enum Words<'a> {
     TlbImage(SystemCommand<'a, ReportAndTlb>),
     /// `twin IMAGE SCHEDULE IMAGE SCHEDULE ENV N`.
     TwinSystems(TwinSystems<'a>),
+    /// `long IMAGE SCHEDULE TICKS`.
+    LongRun(SystemCommand<'a, LongReport>),
+    /// `core IMAGE SCHEDULE TICKS ENV`.
+    CoreEnv(CoreEnv<'a>),
 }
 
 /// The one word that there is.
@@ -101,6 +107,12 @@ pub fn parse(words: &[String]) -> Option<Words<'_>>
     if word == "twin" {
         return Some(Words::TwinSystems(TwinSystems::parse(rest)?));
     }
+    if word == "long" {
+        return Some(Words::LongRun(SystemCommand::parse(rest)?));
+    }
+    if word == "core" {
+        return Some(Words::CoreEnv(CoreEnv::parse(rest)?));
+    }
     None
 }
 
@@ -127,5 +139,7 @@ pub fn perform_words<S: Shelf>(
         Words::WireMachines(command) => perform(alloc, &command, shelf),
         Words::TlbImage(command) => perform(alloc, &command, shelf),
         Words::TwinSystems(command) => perform(alloc, &command, shelf),
+        Words::LongRun(command) => perform(alloc, &command, shelf),
+        Words::CoreEnv(command) => perform(alloc, &command, shelf),
     }
 }
