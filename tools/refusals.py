@@ -73,6 +73,10 @@ SCHEDULE = {
     "Order": "the time is below that of the event before",
     "Many": f"there are more than {MOST_EVENTS:,} events",
 }
+CORE = {
+    "Absent": "the image has no environment with this number: the first one is 0",
+    "Dead": "the environment is dead by then, and its registers and pages are gone: ask for fewer ticks",
+}
 LEDGER = {
     "Syntax": "this isn't the line that is expected here, or the text ends too early",
     "Range": "a number is outside its limits",
@@ -82,7 +86,7 @@ FLAT = {
     "TooBig": "the file has more bytes than physical memory",
 }
 KINDS: Dict[str, Dict[str, str]] = {"source": SOURCE, "manifest": MANIFEST, "image": IMAGE, "ELF file": ELF, "schedule": SCHEDULE,
-                                    "report or plan": LEDGER, "flat file": FLAT}
+                                    "report or plan": LEDGER, "flat file": FLAT, "environment": CORE}
 
 # What is written elsewhere, and what to write here. A, B are the operands as they stand.
 INSTEAD = {
