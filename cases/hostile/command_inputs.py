@@ -91,6 +91,7 @@ def everywhere() -> Iterator[Input]:
         ("run a.img a.sch 60", {"a.img": flat, "a.sch": SCHEDULE}, "a.img"),
         ("tlb a.img a.sch 60", {"a.img": elf, "a.sch": SCHEDULE}, "a.img"),
         ("trace a.img a.sch 60 0", {"a.img": flat, "a.sch": SCHEDULE}, "a.sch"),
+        ("core a.img a.sch 6 0", {"a.img": elf, "a.sch": SCHEDULE}, "a.sch"),
         ("bare a.bin 40 7", {"a.bin": KERNEL}, "a.bin"),
         ("audit a.report 16", {"a.report": report_of(two, 100)}, "a.report"),
         ("audit a.report 16 a.plan", {"a.report": report_of(two, 100), "a.plan": PLANS[1]}, "a.plan"),
@@ -144,9 +145,11 @@ def some(chance: random.Random, pool: Sequence[bytes], share: float = 1.0) -> by
 
 
 def run_input(chance: random.Random, pools: Pools) -> Input:
-    command, share = chance.choice(("run", "tlb", "trace")), chance.choice((0.0, 1.0))
+    command, share = chance.choice(("run", "tlb", "long", "trace", "core")), chance.choice((0.0, 1.0))
     files = {"a.img": some(chance, pools.images, 1 - 0.9 * share), "a.sch": some(chance, pools.schedules, share)}
-    return [command, "a.img", "a.sch", str(chance.randrange(SHORT)), *["0", "1", "31"][chance.randrange(3) :][:1] * (command == "trace")], files
+    ticks, env = chance.randrange(SHORT), chance.choice(("0", "1", "31"))
+    first = [str(chance.randrange(ticks + 2))] if command == "trace" and chance.random() < 0.6 else []
+    return [command, "a.img", "a.sch", str(ticks), *[env] * (command in ("trace", "core")), *first], files
 
 
 def asm_input(chance: random.Random, pools: Pools) -> Input:

@@ -13,9 +13,11 @@ import bare_board
 import run_report
 import wire
 from assembler import assemble, listed
+from core import core_answer
 from files import Fault, image_of, read_elf, read_image, read_manifest
-from limits import (LEAST_QUANTUM, MOST_COMPARED_SLICES, MOST_DELAY, MOST_MACHINES, MOST_QUANTUM, MOST_TARGET, MOST_RUN_TICKS, MOST_TRACED_TICKS,
-                    MOST_WIRE_TICKS)
+from limits import (LEAST_QUANTUM, MOST_COMPARED_SLICES, MOST_DELAY, MOST_MACHINES, MOST_QUANTUM, MOST_TARGET, MOST_RUN_TICKS, MOST_TICKS,
+                    MOST_TRACED_TICKS, MOST_WIRE_TICKS)
+from long_run import long_answer
 from tlb import tlb_answer
 from trace import Traces
 from twin import twin_answer
@@ -25,10 +27,11 @@ Files = Dict[str, bytes]
 Answer = Tuple[int, bytes]  # a status, and what is written
 FILE = None  # of a form: a word that names a file
 # By command, its words: the name of a file, or the least and the greatest number.
-TICKS = (0, MOST_RUN_TICKS)
+TICKS, LONG = (0, MOST_RUN_TICKS), (0, MOST_TICKS)
 Form = Tuple[Optional[Tuple[int, int]], ...]
 FORMS: Dict[str, Form] = {
-    "run": (FILE, FILE, TICKS), "tlb": (FILE, FILE, TICKS), "trace": (FILE, FILE, (0, MOST_TRACED_TICKS), (0, MOST_TARGET)), "asm": (FILE,),
+    "run": (FILE, FILE, TICKS), "tlb": (FILE, FILE, TICKS), "long": (FILE, FILE, LONG), "trace": (FILE, FILE, LONG, (0, MOST_TARGET)),
+    "core": (FILE, FILE, LONG, (0, MOST_TARGET)), "asm": (FILE,),
     "image": (FILE,), "list": (FILE,), "load": ((0, 2**32 - 1),), "bare": (FILE, TICKS, TICKS), "audit": (FILE, (LEAST_QUANTUM, MOST_QUANTUM)),
     "twin": (FILE, FILE, FILE, FILE, (0, MOST_TARGET), (1, MOST_COMPARED_SLICES)),
 }
@@ -41,6 +44,8 @@ def form_of(words: Sequence[str]) -> Form:
         return WIRE + (FILE,) * (len(words) - 3)
     if words[0] == "audit" and len(words) == 4:
         return (*FORMS["audit"], FILE)
+    if words[0] == "trace" and len(words) == 6:
+        return (*FORMS["trace"], LONG)
     return FORMS.get(words[0], ())
 
 
@@ -51,7 +56,14 @@ def fits(word: str, part: Optional[Tuple[int, int]]) -> bool:
 def is_command(words: Sequence[str]) -> bool:
     """Whether these are words of a command."""
     form = form_of(words) if words else ()
-    return len(form) == len(words) - 1 > 0 and all(map(fits, words[1:], form))
+    if not (len(form) == len(words) - 1 > 0 and all(map(fits, words[1:], form))):
+        return False
+    return words[0] != "trace" or 0 <= int(words[3]) - first_traced(words) <= MOST_TRACED_TICKS
+
+
+def first_traced(words: Sequence[str]) -> int:
+    """The tick from which a trace goes on."""
+    return int(words[5]) if len(words) > 5 else 0
 
 
 def names_in(words: Sequence[str]) -> List[str]:
@@ -77,10 +89,19 @@ def tlb(words: Sequence[str], files: Files) -> Answer:
     return status, text.encode("latin-1")
 
 
+def long(words: Sequence[str], files: Files) -> Answer:
+    status, text = long_answer(named(words, files), int(words[3]))
+    return status, text.encode("latin-1")
+
+
 def trace(words: Sequence[str], files: Files) -> Answer:
     traces, ticks = Traces(), int(words[3])
     status, text, board = run_report.answer(named(words, files), ticks, traces.finish)
-    return status, (traces.text(board, ticks, int(words[4])) if board else text).encode("latin-1")
+    return status, (traces.text(board, ticks, int(words[4]), first_traced(words)) if board else text).encode("latin-1")
+
+
+def core(words: Sequence[str], files: Files) -> Answer:
+    return core_answer(named(words, files), int(words[3]), int(words[4]))
 
 
 def asm(words: Sequence[str], files: Files) -> Answer:
@@ -133,8 +154,8 @@ def twin(words: Sequence[str], files: Files) -> Answer:
 
 
 COMMANDS: Dict[str, Callable[[Sequence[str], Files], Answer]] = {
-    "run": run, "tlb": tlb, "trace": trace, "asm": asm, "list": list_elf, "image": image, "audit": audit, "bare": bare, "wire": wired,
-    "twin": twin,
+    "run": run, "tlb": tlb, "long": long, "trace": trace, "core": core, "asm": asm, "list": list_elf, "image": image, "audit": audit,
+    "bare": bare, "wire": wired, "twin": twin,
 }
 
 

@@ -84,6 +84,16 @@ def differs(wanted: Tuple[int, str], found: Optional[Tuple[int, str]]) -> str:
     return "" if found == wanted else f"status {found[0]}: {difference(wanted[1], found[1])}"
 
 
+def core_differs(wanted: Tuple[int, bytes], found: Optional[Tuple[int, str]]) -> str:
+    """How a core differs from the one that is wanted, or nothing."""
+    text = wanted[1].decode("latin-1")
+    if found is None or found == (wanted[0], text):
+        return "" if found else "it doesn't end"
+    place = next((at for at, (left, right) in enumerate(zip(text, found[1])) if left != right), min(len(text), len(found[1])))
+    here, there = (it[place & ~3 : (place & ~3) + 16].encode("latin-1").hex(" ", 4) for it in (found[1], text))
+    return f"status {found[0]} and not {wanted[0]}, {len(found[1])} bytes and not {len(text)}, at {place & ~3} {here} and not {there}"
+
+
 def failure(folder: str, system_of: Callable[[int], RandomSystem], seed: int, seen: Counter[Thing], with_traces: bool) -> Optional[str]:
     """Why the program differs at this seed, or nothing."""
     system, files = system_of(seed), []

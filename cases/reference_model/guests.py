@@ -28,6 +28,7 @@ sys.path += [CASES, f"{CASES}/random_systems", f"{CASES}/../tools"]
 import binary
 import kernel_layout
 from kernel_calls import BACKUP, CLAIM, HANDLER, LINE, SEND, UNCLAIM
+from limits import MOST_RUN_TICKS
 from systems import (A0, A1, ALLOC, ANY, AREA, BASE, BIND, CONTEXTS, COUNTER, EXCEPTIONS, EXIT, FREE, NOP, OPCODES, PAGE, PAGES, POINTER, PUT, ROUNDS,
                      SCRATCH, SYSCALL, V0, V1, ZERO, Blocks, Program, addiu, immediate, ori, register)
 
@@ -470,7 +471,7 @@ class System:
         self.slots = [0] + [chance.choice((environment,) * 6 + (255,)) for environment in range(1, count)]
         self.slots += [chance.choice((*range(count), 255)) for _ in range(chance.randrange(4))]
         chance.shuffle(self.slots)
-        self.quantum, self.ticks = chance.randrange(16, 100), self.duration()
+        self.quantum, self.ticks = self.slice_ticks(), self.duration()
         self.traffic, self.revokes = self.new_traffic(), chance.choice((0, 0, 0.1, 0.3, 0.5))
         self.deadlines: List[int] = []
         programs = [self.program(environment, stack) for environment, stack in enumerate(stacks)]
@@ -487,6 +488,10 @@ class System:
     def environments(self) -> int:
         """How many there are."""
         return self.chance.randrange(1, 7)
+
+    def slice_ticks(self) -> int:
+        """How many ticks a slice has."""
+        return self.chance.randrange(16, 100)
 
     def duration(self) -> int:
         """For how many ticks it runs."""
@@ -519,9 +524,9 @@ class System:
             if kind < 0.2 and times:
                 times += [chance.choice(times)] * chance.choice((1, 1, 3))
             elif kind < 0.26:
-                times.append(chance.choice((0, max(0, self.ticks - 1), self.ticks, self.ticks + 7, 4194304)))
+                times.append(chance.choice((0, *(min(it, MOST_RUN_TICKS) for it in (max(0, self.ticks - 1), self.ticks, self.ticks + 7)), MOST_RUN_TICKS)))
             else:
-                times.append(int(self.ticks * chance.random() ** 0.5))
+                times.append(int(min(self.ticks, MOST_RUN_TICKS) * chance.random() ** 0.5))
         return [(time, self.event_text(time)) for time in sorted(times)]
 
     def event_text(self, time: int) -> str:

@@ -1,8 +1,8 @@
-"""What a trace writes: docs/REPORT.md, "The trace". `python3 trace.py IMAGE SCHEDULE TICKS ENV` writes it."""
+"""What a trace writes: docs/REPORT.md, "The trace". `python3 trace.py IMAGE SCHEDULE TICKS ENV [FROM]` writes it."""
 from __future__ import annotations
 
 import sys
-from typing import Dict, List
+from typing import Dict, List, Tuple
 
 from board import Board, Env, word_of
 from files import PAGE
@@ -29,26 +29,26 @@ def instruction(board: Board, env: Env) -> str:
 
 
 class Traces:
-    """The lines of each environment, as they come tick by tick."""
+    """The lines of each environment with their ticks, as they come tick by tick."""
 
     def __init__(self) -> None:
-        self.lines: Dict[int, List[str]] = {}
+        self.lines: Dict[int, List[Tuple[int, str]]] = {}
 
     def finish(self, board: Board) -> None:
         """The step of a tick, and what stands in a line after it."""
-        env = board.running()
+        env, tick = board.running(), board.time
         before = values(env)
-        line = f"{board.time} {env.cpu.pc:08x} {instruction(board, env)}"
+        line = f"{tick} {env.cpu.pc:08x} {instruction(board, env)}"
         finish_tick(board)
         if not env.is_alive:
             line += " dead"
         else:
             line += "".join(f" {name} {new:08x}" for name, old, new in zip(NAMES, before, values(env)) if old != new)
-        self.lines.setdefault(env.number, []).append(line)
+        self.lines.setdefault(env.number, []).append((tick, line))
 
-    def text(self, board: Board, ticks: int, number: int) -> str:
-        """The trace of an environment, which may be none of the image."""
-        lines = [f"aegis trace {number}", *self.lines.get(number, ()), end_line(board, ticks), "done"]
+    def text(self, board: Board, ticks: int, number: int, first: int = 0) -> str:
+        """The trace of an environment from a tick on; it may be none of the image."""
+        lines = [f"aegis trace {number}", *(line for tick, line in self.lines.get(number, ()) if tick >= first), end_line(board, ticks), "done"]
         return "".join(f"{line}\n" for line in lines)
 
 
@@ -57,9 +57,9 @@ def main() -> None:
     for name in sys.argv[1:3]:
         with open(name, "rb") as file:
             files.append((name, file.read()))
-    ticks, number = map(int, sys.argv[3:])
+    ticks, number, *first = map(int, sys.argv[3:])
     status, text, board = answer(files, ticks, traces.finish)
-    print(traces.text(board, ticks, number) if board else text, end="")
+    print(traces.text(board, ticks, number, *first) if board else text, end="")
     sys.exit(status)
 
 
