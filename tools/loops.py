@@ -4,7 +4,6 @@ from __future__ import annotations
 
 from typing import Dict, List, Optional, Set, Tuple
 
-from limits import MOST_TRACED_TICKS
 from places import Line, Places
 from refused_calls import CALL_NAME
 
@@ -57,13 +56,13 @@ def lines_of(addresses: Set[int], places: Places) -> str:
     return f"line{'s' if len(numbers) > 1 else ''} {' and '.join(shown)}{more}"
 
 
-def loop_line(text: str, places: Places, ticks: int, pc: int) -> List[str]:
-    """What is said of an environment that lives at the limit, where it stands at this address, and its trace is this."""
+def loop_line(text: str, first: int, places: Places, pc: int) -> List[str]:
+    """What is said of an environment that lives at the limit, where it is at this address, and this is its trace from a tick on."""
     found = loop(text)
     if found is None or pc not in found[1]:
         return []
     since, addresses = found
     where = lines_of(addresses, places) or f"0x{min(addresses):08x} to 0x{max(addresses):08x}"
-    if ticks > MOST_TRACED_TICKS:
-        return [f"   from tick {since:,} to {MOST_TRACED_TICKS - 1:,} it goes round {where} without a call, and there it is at the limit"]
-    return [f"   since tick {since:,} it goes round {where} without a call"]
+    is_older = first > 0 and since == int(text.split("\n", 2)[1].split(" ", 1)[0])
+    before = " or before" if is_older else ""
+    return [f"   since tick {since:,}{before} it goes round {where} without a call"]

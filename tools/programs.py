@@ -23,7 +23,7 @@ import manifests
 import refusals
 from elf_symbols import symbols
 from faults import faults, plain
-from limits import LEAST_QUANTUM, MOST_ENVIRONMENTS, MOST_MAPPINGS, MOST_QUANTUM, PAGE_SIZE, VERSIONS
+from limits import LEAST_QUANTUM, MOST_ENVIRONMENTS, MOST_MAPPINGS, MOST_QUANTUM, MOST_RUN_TICKS, PAGE_SIZE, VERSIONS
 from loading import loaded
 from report import Report, read
 from shown import decoded, open_output, shown
@@ -450,12 +450,13 @@ def bad_schedule(shown: str, text: bytes, why: str, place: int) -> List[str]:
 
 
 def run(machine: Machine, ticks: int) -> Report:
-    """Runs a machine alone, and reads its report."""
-    status, said = aegis("run", *machine.files(), str(ticks), cwd=machine.room)
+    """Runs a machine alone, and reads its report. Beyond what `run` allows it is `long`."""
+    command = "run" if ticks <= MOST_RUN_TICKS else "long"
+    status, said = aegis(command, *machine.files(), str(ticks), cwd=machine.room)
     if status == REFUSED and machine.schedule:
         raise Failed(REFUSED, *bad_schedule(machine.schedule, content(f"{machine.room}/try.sch"), *refusal(said)))
     if status:
-        raise Failed(status, f"`run` ended with {status}: {said.decode(errors='replace').strip()}")
+        raise Failed(status, f"`{command}` ended with {status}: {said.decode(errors='replace').strip()}")
     return reported(machine, said.decode("latin-1"))
 
 

@@ -29,11 +29,12 @@ class Refusals:
     times: int = 1
 
 
-def refusals(text: str, entries: List[int]) -> List[Refusals]:
-    """The refused calls of a trace, in the order of their first ones. `entries` are the ticks in which transfers entered the
-    environment: then its registers aren't known."""
-    registers: List[Optional[int]] = [0] * (LAST_ARGUMENT + 1)
-    found: Dict[Tuple[int, Optional[int], int], Refusals] = {}
+Found = Dict[Tuple[int, Optional[int], int], Refusals]
+
+
+def find_refusals(text: str, entries: List[int], registers: List[Optional[int]], found: Found) -> None:
+    """Finds the refused calls of a trace, in the order of their first ones. `entries` are the ticks in which transfers entered the
+    environment: then its registers aren't known. These are its registers before the trace's first step."""
     entered = iter([*entries, 1 << 32])
     due, slot = next(entered), -1  # the address of the delay slot of a jump that was made last
     for line in text.split("\n")[1:-3]:
@@ -58,12 +59,24 @@ def refusals(text: str, entries: List[int]) -> List[Refusals]:
             else:
                 found[key] = Refusals(address, asked(before), code)
         slot = address + 4 if words[3] in JUMPS else -1
-    return list(found.values())
 
 
-def trace_text(machine: Machine, report: Report, env: int) -> str:
-    """The trace of an environment, of the ticks that a trace has at most."""
-    status, said = aegis("trace", *machine.files(), str(min(report.head.time, MOST_TRACED_TICKS)), str(env), cwd=machine.room)
+def windows(ticks: int) -> List[Tuple[int, int]]:
+    """The ticks of a run that are looked at: from where, and up to where. They are the first ones and the last ones that a trace has."""
+    last = max(0, ticks - MOST_TRACED_TICKS)
+    return [*([(0, min(last, MOST_TRACED_TICKS))] if last else []), (last, ticks)]
+
+
+def how_far(ticks: int) -> List[str]:
+    """That a run has ticks between those that are looked at."""
+    if ticks <= 2 * MOST_TRACED_TICKS:
+        return []
+    return [f"-- refused calls: the first and the last {MOST_TRACED_TICKS:,} of {ticks:,} ticks were looked at"]
+
+
+def trace_text(machine: Machine, env: int, first: int, ticks: int) -> str:
+    """The trace of an environment in some ticks of a run."""
+    status, said = aegis("trace", *machine.files(), str(ticks), str(env), *([str(first)] if first else []), cwd=machine.room)
     if status:
         raise Failed(status, "the program has no command `trace`, so calls that were refused aren't told" if status == USAGE
                      else f"`trace` ended with {status}")
@@ -73,17 +86,25 @@ def trace_text(machine: Machine, report: Report, env: int) -> str:
     return text
 
 
-def refused_calls(text: str, report: Report, env: int) -> List[Refusals]:
-    """The refused calls of an environment, by its trace."""
+def refused_calls(machine: Machine, report: Report, env: int) -> Tuple[List[Refusals], str, int]:
+    """The refused calls of an environment, by its traces, and the last trace with the tick from which it goes on."""
     entries = [it.time for it in report.marks if it.kind in TRANSFERS and int(it.row.split()[4]) == env]
-    return refusals(text, entries)
+    registers: List[Optional[int]] = [0] * (LAST_ARGUMENT + 1)
+    found: Found = {}
+    text, first, end = "", 0, 0
+    for first, ticks in windows(report.head.time):
+        text = trace_text(machine, env, first, ticks)
+        if first > end:
+            registers = [None] * (LAST_ARGUMENT + 1)
+        find_refusals(text, [it for it in entries if it >= end], registers, found)
+        end = ticks
+    return list(found.values()), text, first
 
 
-def lines(refused: List[Refusals], places: Places, ticks: int) -> Iterator[str]:
+def lines(refused: List[Refusals], places: Places) -> Iterator[str]:
     """What is said of them, as a line each."""
-    when = f" in the first {MOST_TRACED_TICKS:,} ticks" if ticks > MOST_TRACED_TICKS else ""
     for it in refused:
         line = places.lines.get(it.address)
         where = f"{line.file}:{line.number}" if line else f"at 0x{it.address:08x}"
-        times = f", {it.times:,} times{when}" if it.times > 1 else ""
+        times = f", {it.times:,} times" if it.times > 1 else ""
         yield f"   {where}: {it.asked} was refused: {it.code}, {answer_name(it.code)}{times}"

@@ -18,7 +18,7 @@ import re
 from dataclasses import dataclass, field
 from typing import Any, Callable, Dict, Iterable, List, Match, Optional, Pattern, Protocol, Tuple
 
-from limits import MOST_ENVIRONMENTS, MOST_SLOTS, MOST_RUN_TICKS
+from limits import MOST_ENVIRONMENTS, MOST_SLOTS, MOST_TICKS
 
 LONGEST_LINE = 4 * 65_536 + 64  # a full console, each byte as `\x` and two digits
 
@@ -218,8 +218,8 @@ def read_head(lines: Lines) -> Head:
     """Reads a report up to its first row."""
     lines.take(HEAD["aegis"])
     ending, time = lines.fields(HEAD["end"])
-    if int(time) > MOST_RUN_TICKS:
-        raise Refused(lines.number, f"more than {MOST_RUN_TICKS:,} ticks")
+    if int(time) > MOST_TICKS:
+        raise Refused(lines.number, f"more than {MOST_TICKS:,} ticks")
     lines.advance()
     environments: List[Environment] = []
     while not environments or lines.word() == "env":
