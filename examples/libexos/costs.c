@@ -43,7 +43,7 @@ static unsigned empty;
         printf("%5u %s\n", ticks - empty, name);             \
     } while (0)
 
-static void memory_costs(void)
+__attribute__((noinline)) static void memory_costs(void)
 {
     exos_on_fault(vm_on_fault);
     COST("vm_map, of 8 pages", vm_unmap(memory, 8), vm_map(memory, 8, VM_WRITE));
@@ -58,9 +58,12 @@ static void memory_costs(void)
     COST("vm_lend", , kept = vm_lend(memory, 1, 0));
     COST("vm_unmap, a page", vm_map(memory, 1, VM_WRITE); memory[0] = 1, vm_unmap(memory, 1));
     COST("revoke_asked", , kept = revoke_asked());
+    COST("revoke_give", kept = aegis_alloc(AEGIS_ANY, 0, 0).value, revoke_give(kept));
+    COST("revoke_copy_of, where none was taken", , kept = revoke_copy_of(1));
+    COST("exos_on_fault", , exos_on_fault(vm_on_fault));
 }
 
-static void processor_costs(void)
+__attribute__((noinline)) static void processor_costs(void)
 {
     COST("thread_make", , thread_make(&thread[turn], loop, 0, stack[turn], sizeof stack[turn]));
     thread_yield();
@@ -69,12 +72,13 @@ static void processor_costs(void)
     lock_drop(&lock);
     COST("lock_drop", lock_take(&lock), lock_drop(&lock));
     stride_add(1, 3);
-    stride_add(2, 2);
-    stride_add(3, 1);
+    COST("stride_add, of 3", , stride_add(2 + turn, 2 - turn));
     COST("stride_next, of 3", , kept = stride_next());
+    COST("rpc_open_trusted", , rpc_open_trusted());
+    COST("link_open", , kept = link_open(0, turn, 1000, 1));
 }
 
-static void moving_costs(void)
+__attribute__((noinline)) static void moving_costs(void)
 {
     heap_begin(heap, sizeof heap);
     COST("malloc, 100 bytes", , piece = malloc(100));
@@ -91,6 +95,23 @@ static void moving_costs(void)
     COST("pipe_read, 100 bytes", , kept = pipe_read(&reader, to, 100));
 }
 
+__attribute__((noinline)) static void more_costs(void)
+{
+    COST("calloc, 100 bytes", free(piece), piece = calloc(25, 4));
+    COST("realloc, of 100 bytes to 200", piece = malloc(100), piece = realloc(piece, 200));
+    COST("heap_begin", , heap_begin(heap, sizeof heap));
+    COST("memmove, 1,000 bytes upwards", , memmove(from + 4, from, 1000));
+    COST("memcmp, 1,024 equal bytes", memcpy(to, from, 1024), kept = memcmp(to, from, 1024));
+    memset(from, 'x', 99);
+    from[99] = 0;
+    COST("strlen, 99 characters", , kept = strlen((char *)from));
+    COST("strcpy, 99 characters", , strcpy((char *)to, (char *)from));
+    COST("strcmp, 99 equal characters", , kept = strcmp((char *)to, (char *)from));
+    COST("strchr, the hundredth character", , kept = strchr((char *)to, 0) != 0);
+    COST("pipe_make", , pipe_make(&reader, (void *)0x00701000, 201 + turn, 1));
+    COST("pipe_open", , pipe_open(&reader, (void *)0x00701000, 201, 1));
+}
+
 int main(void)
 {
     for (unsigned turn = 0; turn < 2; turn++) {
@@ -102,6 +123,7 @@ int main(void)
     COST("a BREAK, to C and back", , __asm__ volatile("break"));
     memory_costs();
     moving_costs();
+    more_costs();
     processor_costs();
     exit(0);
 }

@@ -20,7 +20,7 @@ static struct packet waiting; /* a message that came while another was being sen
 static int is_waiting;
 
 /* Opens the link from this machine to another. A message is sent again after so many ticks, and given up after so many tries. An
-   alloc, a bind, a claim: 0, or -1. */
+   alloc, a bind, a claim, 1,608 ticks: 0, or -1. */
 int link_open(unsigned char self, unsigned char peer, unsigned ticks, unsigned tries)
 {
     static struct aegis_atom filter[] __attribute__((aligned(64))) = {

@@ -13,7 +13,7 @@ struct pipe_page {
 };
 
 /* The writer's side: allocates the page, to be seen at an address by who presents the word. 0, or the kernel's code. An alloc, a
-   bind. */
+   bind: 30 ticks. */
 int pipe_make(struct pipe *pipe, void *address, unsigned page, unsigned long long word)
 {
     unsigned code = aegis_alloc(page, 0, word).code;
@@ -21,7 +21,7 @@ int pipe_make(struct pipe *pipe, void *address, unsigned page, unsigned long lon
     return code ? code : aegis_bind(address, page, 1, 0);
 }
 
-/* The reader's side: waits until the page is there. A bind, and a yield as long as there is no right to it. */
+/* The reader's side: waits until the page is there. A bind, 24 ticks, and a yield as long as there is no right to it. */
 int pipe_open(struct pipe *pipe, void *address, unsigned page, unsigned long long word)
 {
     unsigned code;

@@ -7,7 +7,7 @@
 
 void rpc_answered(void), rpc_called(void);
 
-/* Names the entry at which answers come. A context. */
+/* Names the entry at which answers come. A context: 10 ticks. Who asks without it waits for ever. */
 void rpc_open_trusted(void)
 {
     aegis_context(AEGIS_SYNCHRONOUS_CALLS, rpc_answered);

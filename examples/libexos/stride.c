@@ -9,7 +9,8 @@ static struct {
 } clients[CLIENTS];
 static unsigned count;
 
-/* Gives an environment a share, of 1 to 5,040: -1 where there is no room, or the share is none. Asks nothing. */
+/* Gives an environment a share, of 1 to 5,040: -1 where there is no room, or the share is none. Asks nothing: 53 ticks for
+   the third client. */
 int stride_add(unsigned env, unsigned share)
 {
     unsigned least = count ? ~0u : 0;

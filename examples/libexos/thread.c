@@ -119,7 +119,7 @@ void lock_take(struct lock *lock)
     EXOS_NO_SWITCH = 0;
 }
 
-/* Gives it to whoever comes next: 7 ticks. */
+/* Gives it to whoever comes next: 7 ticks. Nobody looks whose it is: who drops another's lock lets a third thread in. */
 void lock_drop(struct lock *lock)
 {
     lock->held = 0;

@@ -7,7 +7,7 @@ unsigned char exos_fault_stack[4096] __attribute__((aligned(16))); /* of the pro
 static exos_handler *handler_of;
 
 /* Has exceptions handled by a function, and by 0 not any more. It answers whether it has dealt with one: the program goes on at
-   `resume` then. Else it dies of the exception, as it would without a handler. A context; a BREAK to a function that passes over it,
+   `resume` then. Else it dies of the exception, as it would without a handler. A context, 14 ticks; a BREAK to a function that passes over it,
    and back, takes 123 ticks. */
 void exos_on_fault(exos_handler *handler)
 {
