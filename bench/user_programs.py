@@ -83,6 +83,8 @@ class Program(NamedTuple):
     end: int
     raised: Optional[str]
     names: Set[Optional[str]]
+
+
 SPECIAL = (0, 1, 2, 3, 4, 31, 32, 0x7F, 0x80, 0xFF, 0x7FFF, 0x8000, 0xFFFF, 0x7FFFFFFF, 0x80000000, 0x80000001, 0xFFFF8000,
            0xFFFFFFFE, 0xFFFFFFFF)
 # Words of 64 bits' instructions, which no MIPS of 32 bits has, and words of coprocessors.

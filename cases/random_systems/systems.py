@@ -266,8 +266,8 @@ class Program:
             self.add(*self.chance.choice(((BREAK,), overflow, (0xFFFFFFFF,), (0x40086000,), (0x4C000000,))))
 
     BLOCKS: Blocks = ((allocate, 4), (free, 1), (recap, 2), (bind_own, 4), (bind_shared, 8), (unbind, 2), (give_up, 2), (put, 3), (ask, 1),
-              (give, 4), (transfer, 9), (accept, 3), (take, 2), (drop, 2), (query, 3), (hear, 1),
-              (other_calls, 1), (accesses, 4), (fill, 2), (delay_slot, 2), (arithmetic, 3), (fault, 1))
+                      (give, 4), (transfer, 9), (accept, 3), (take, 2), (drop, 2), (query, 3), (hear, 1),
+                      (other_calls, 1), (accesses, 4), (fill, 2), (delay_slot, 2), (arithmetic, 3), (fault, 1))
 
     def handler_of_starts(self) -> None:
         """Goes on with the program; at times it gives the slice away, or is long."""
