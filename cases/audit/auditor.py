@@ -189,7 +189,7 @@ class Auditor:
     def is_turn(self, time: int, slot: int, env: int) -> bool:
         order = [(self.cursor + step) % (LAST_SLOT + 1) for step in range(1, LAST_SLOT + 2)]
         held = [at for at in order if at in self.slots]
-        return self.runner is None and time == self.next_turn and held[:1] == [slot] and self.slots[slot][1] == env
+        return self.runner is None and time == self.next_turn and env not in self.dead and held[:1] == [slot] and self.slots[slot][1] == env
 
     def fits_run(self, _: int, time: int, slot: int, env: int) -> bool:
         return self.is_turn(time, slot, env) and self.excess(env) == 0
@@ -201,7 +201,7 @@ class Auditor:
         return self.runner == env and slot == self.cursor
 
     def is_gift(self, slot: int, giver: int, to: int) -> bool:
-        return self.is_runners(slot, giver) and giver != to and not self.grace
+        return self.is_runners(slot, giver) and giver != to and to not in self.dead and not self.grace
 
     def fits_give(self, _: int, time: int, slot: int, giver: int, to: int) -> bool:
         return self.is_gift(slot, giver, to) and (self.plan is None or giver != self.plan.scheduler or to == self.next_client(self.plan))

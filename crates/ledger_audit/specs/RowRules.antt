@@ -68,17 +68,18 @@ unfoldable pub are_passed : LedgerState → ℕ → Bool
 are_passed s slot = all_below most_slots (is_passed s slot)
 
 -- A turn: nobody runs, it is taken in its tick, its slot is the first after the cursor that has a holder, and this is
--- the holder.
+-- the holder, who lives.
 abbrev pub is_next : LedgerState → ℕ → ℕ → ℕ → Bool
-is_next s time slot e = is_none s.runner && ((time == s.turn) && (holds e (s.slots slot) && are_passed s slot))
+is_next s time slot e =
+    is_none s.runner && ((time == s.turn) && (not (s.dead e) && (holds e (s.slots slot) && are_passed s slot)))
 
 -- the runner, in the turn's slot
 abbrev pub is_runners : LedgerState → ℕ → ℕ → Bool
 is_runners s slot e = is_number e s.runner && (slot == s.cursor)
 
--- a slice that is handed on: by its runner, to another, in the turn's slot, within the slice
+-- a slice that is handed on: by its runner, to another, who lives, in the turn's slot, within the slice
 abbrev pub is_gift : LedgerState → ℕ → ℕ → ℕ → Bool
-is_gift s slot from to = is_runners s slot from && (not (from == to) && not (in_grace s.phase))
+is_gift s slot from to = is_runners s slot from && (not (from == to) && (not (s.dead to) && not (in_grace s.phase)))
 
 -- whether the next row is the death of an environment at a time
 abbrev pub dies_next : ℕ → ℕ → List Row → Bool

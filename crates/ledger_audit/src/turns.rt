@@ -40,20 +40,26 @@ pub(crate) fn is_runners(state: &State, slot: u32, env: u8) -> bool
     state.runner == Some(env) && slot == state.cursor
 }
 
-/// Whether a slice may be handed on.
+/// Whether a slice may be handed on to this environment.
 pub(crate) fn is_gift(state: &State, slot: u32, from: u8, to: u8) -> bool
+    requires { to < environment_numbers }
     ensures { result ≡ is_gift (state_of state.now) slot from to }
 {
-    is_runners(state, slot, from) && from != to && matches!(state.phase, Phase::Own)
+    is_runners(state, slot, from)
+        && from != to
+        && !state.dead[to as usize]
+        && matches!(state.phase, Phase::Own)
 }
 
 /// Whether it is the next turn, and whose.
 pub(crate) fn is_next(state: &State, time: u32, slot: u32, env: u8) -> bool
-    requires { slot < most_slots }
+    requires slot { slot < most_slots }
+    requires env { env < environment_numbers }
     ensures { result ≡ is_next (state_of state.now) time slot env }
 {
     state.runner.is_none()
         && time == state.turn
+        && !state.dead[env as usize]
         && holds(env, state.slots[slot as usize])
         && are_passed(state, slot)
 }

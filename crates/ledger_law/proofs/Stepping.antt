@@ -12,6 +12,7 @@ use Rattle.world_model.specs.declared.call.Deed.{Deed}
 use Rattle.world_model.specs.declared.call.Deed.TheVariants.{Answers, Own, Stops, Gives, Allocates, Frees, Recaps, Binds, Unbinds, Transfers, TakesSlot, DropsSlot, TakesLine, DropsLine, Claims, Unclaims, Downloads, Loads}
 use Rattle.world_model.specs.declared.code.Code.TheVariants as code
 use Rattle.world_model.specs.declared.life.Cause.{Cause}
+use Rattle.world_model.specs.declared.life.Life.{Life}
 use Rattle.world_model.specs.declared.life.Life.TheVariants.{Live, Dead}
 use Rattle.world_model.specs.declared.hold.Hold.{Hold}
 use Rattle.world_model.specs.declared.slot.Phase.{Phase}
@@ -81,6 +82,11 @@ slot_set t k hold u slots is = λ i j. at j i
         ap (λ (o : Option (Option Hold)). unwrap_or o (u.slots j)) (slot_said t k hold j) ∙ by_slot (j == k) (u.slots j)
         ∙ ap (λ (f : ℕ → Option Hold). if j == k then hold else f j) is
 
+-- another environment, which lives
+pub record Other (w : World) (e to : ℕ) : Type 0 where
+  pub differs : (to == e) ≡ false
+  pub lives : Lives w to
+
 -- What a deed adds.
 pub record Deeds (q : ℕ) (w : World) (b : Book) (rows : List Row) : Type 0 where
   pub time : b.time ≡ w.book.time
@@ -143,11 +149,14 @@ module _ (q : ℕ) (w : World) (r : Runner) (is : w.book.runner ≡ Some r) (tol
   }
 
   -- the slice is handed on
-  gift_true : (to : ℕ) → (to == r.env) ≡ false → in_grace r.phase ≡ false → is_gift s c.cursor r.env to ≡ true
+  gift_true : (to : ℕ) → Other w r.env to → in_grace r.phase ≡ false → is_gift s c.cursor r.env to ≡ true
   gift_true to other own =
-      and_true (is_runners s c.cursor r.env) (not (r.env == to) && not (in_grace s.phase)) (runners_true q 0 s c.cursor c.time r runs)
-      (and_true (not (r.env == to)) (not (in_grace s.phase)) (ap not (ne_eqb r.env to (λ (same : r.env ≡ to). eqb-false to r.env other (sym same))))
-      (ap (λ (p : Phase). not (in_grace p)) runs.phase ∙ ap not own))
+      let differs : not (r.env == to) ≡ true = ap not (ne_eqb r.env to (λ (same : r.env ≡ to). eqb-false to r.env other.differs (sym same))) in
+      let spared : not (s.dead to) ≡ true = ap not (told.spares to other.lives) in
+      let slice : not (in_grace s.phase) ≡ true = ap (λ (p : Phase). not (in_grace p)) runs.phase ∙ ap not own in
+      and_true (is_runners s c.cursor r.env) (not (r.env == to) && (not (s.dead to) && not (in_grace s.phase))) (runners_true q 0 s c.cursor c.time r runs)
+      (and_true (not (r.env == to)) (not (s.dead to) && not (in_grace s.phase)) differs
+      (and_true (not (s.dead to)) (not (in_grace s.phase)) spared slice))
 
   handed_bound : (slots : ℕ → Option Hold) (runner : Option Runner) → ((k : ℕ) → w.book.slot_count ≤ k → slots k ≡ None) → IsBound q (core (record w.book { slots = slots; runner = runner }))
   handed_bound slots runner beyond = record { beyond = beyond; within = told.bound.within; most = told.bound.most; same = told.bound.same; least = told.bound.least; modest = told.bound.modest }
@@ -168,7 +177,7 @@ module _ (q : ℕ) (w : World) (r : Runner) (is : w.book.runner ≡ Some r) (tol
     });
   }
 
-  pub give_deeds : (to : ℕ) → (to == r.env) ≡ false → in_grace r.phase ≡ false
+  pub give_deeds : (to : ℕ) → Other w r.env to → in_grace r.phase ≡ false
       → Deeds q w (record w.book { runner = handed to w.book.runner }) (row.Give w.book.time w.book.cursor r.env to ∷ [])
   give_deeds to other own = record {
     time = refl;
@@ -179,7 +188,7 @@ module _ (q : ℕ) (w : World) (r : Runner) (is : w.book.runner ≡ Some r) (tol
     spares = λ e dead. dead;
   }
 
-  pub async_deeds : (to : ℕ) → (to == r.env) ≡ false → in_grace r.phase ≡ false
+  pub async_deeds : (to : ℕ) → Other w r.env to → in_grace r.phase ≡ false
       → Deeds q w (record w.book { runner = handed to w.book.runner }) (row.Async w.book.time w.book.cursor r.env to ∷ [])
   async_deeds to other own = record {
     time = refl;
@@ -194,7 +203,7 @@ module _ (q : ℕ) (w : World) (r : Runner) (is : w.book.runner ≡ Some r) (tol
   set_beyond k hold there j past = let differs : j ≡ k → ⊥ = λ (same : j ≡ k). omega arith in rw (ne_eqb j k differs) (told.bound.beyond j past)
 
   -- with the slot, too
-  pub sync_deeds : (to : ℕ) → (to == r.env) ≡ false → in_grace r.phase ≡ false → holds r.env (turn_slot w.book) ≡ true
+  pub sync_deeds : (to : ℕ) → Other w r.env to → in_grace r.phase ≡ false → holds r.env (turn_slot w.book) ≡ true
       → (let hold = option_map (held_by to) (turn_slot w.book) in
       Deeds q w (record w.book { slots = set_at w.book.cursor hold w.book.slots; runner = handed to w.book.runner })
       (row.Sync w.book.time w.book.cursor r.env to ∷ slot_row w.book.time w.book.cursor hold ∷ []))
@@ -268,11 +277,16 @@ module _ (q : ℕ) (w : World) (r : Runner) (is : w.book.runner ≡ Some r) (tol
       }
 
 -- Which deed does what.
-other_of : (w : World) (e target : ℕ) → is_other w e target ≡ true → (target == e) ≡ false
+living : (life : Life) → not (is_dead life) ≡ true → life ≡ Live
+living Live alive = refl
+living (Dead cause) alive = cc
+
+other_of : (w : World) (e target : ℕ) → is_other w e target ≡ true → Other w e target
 other_of w e target is =
     let alive = not (is_dead (w.solos target).life) in
     let rest : (alive && not (target == e)) ≡ true = (and_parts (nat_lt target w.count) (alive && not (target == e)) is).1 in
-    not-true (target == e) (and_parts alive (not (target == e)) rest).1
+    let both = and_parts alive (not (target == e)) rest in
+    record { differs = not-true (target == e) both.1; lives = living (w.solos target).life both.0 }
 
 gift_own : (later : Bool) (r : Runner) (slot : Option Hold) → gift_refusal later (Some r) slot ≡ None → (in_grace r.phase ≡ false) × (may_hand_on later r.env slot ≡ true)
 gift_own later r slot is = by_phase (in_grace r.phase) (may_hand_on later r.env slot) is

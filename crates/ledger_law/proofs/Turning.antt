@@ -122,13 +122,14 @@ module _ (q : ℕ) (w : World) (least : 1 ≤ q) (live : AreSlotsLive w w.book.s
   holder_lives e None lived is = cc
   holder_lives e (Some hold) lived is = let same : hold.holder ≡ e = cc in subst (λ (n : ℕ). Lives w n) same (lived hold refl).1
 
-  next_true : (s : LedgerState) (cursor : ℕ) (excess : ℕ → ℕ) (slot e : ℕ) → cursor < w.book.slot_count → Turns w s cursor excess
+  next_true : (s : LedgerState) (cursor : ℕ) (excess : ℕ → ℕ) (slot e : ℕ) → cursor < w.book.slot_count → Turns w s cursor excess → Lives w e
       → IsNextHeld (record w.book { cursor = cursor; excess = excess }) slot e → is_next s w.book.time slot e ≡ true
-  next_true s cursor excess slot e below now next =
-      and_true (is_none s.runner) ((w.book.time == s.turn) && (holds e (s.slots slot) && are_passed s slot)) (ap is_none now.nobody)
-      (and_true (w.book.time == s.turn) (holds e (s.slots slot) && are_passed s slot) (eq-eqb w.book.time s.turn (sym now.turn))
+  next_true s cursor excess slot e below now lives next =
+      and_true (is_none s.runner) ((w.book.time == s.turn) && (not (s.dead e) && (holds e (s.slots slot) && are_passed s slot))) (ap is_none now.nobody)
+      (and_true (w.book.time == s.turn) (not (s.dead e) && (holds e (s.slots slot) && are_passed s slot)) (eq-eqb w.book.time s.turn (sym now.turn))
+      (and_true (not (s.dead e)) (holds e (s.slots slot) && are_passed s slot) (ap not (now.owes e lives).0)
       (and_true (holds e (s.slots slot)) (are_passed s slot) (subst (λ (f : ℕ → Option Hold). holds e (f slot) ≡ true) (sym now.slots) (holds_held e (w.book.slots slot) next.held))
-      (all_passed s slot (λ k is. empty k is))))
+      (all_passed s slot (λ k is. empty k is)))))
     where
       by_count : (k : ℕ) → is_between s.cursor slot k ≡ true → ((k < w.book.slot_count) ⊎ (w.book.slot_count ≤ k)) → w.book.slots k ≡ None
       by_count k is (inl there) = between_empty w.book.slots w.book.slot_count cursor slot next.steps below next.steps_least next.steps_most next.stands next.between s.cursor k now.cursor few there is
@@ -171,7 +172,7 @@ module _ (q : ℕ) (w : World) (least : 1 ≤ q) (live : AreSlotsLive w w.book.s
       let owes : (excess_in s t.env == 0) ≡ true = eq-eqb (excess_in s t.env) 0 (excess_is s cursor excess t.env now lives ∙ free) in
       and_true (is_fit q end s r later) true
       (and_true _ _ (in_time q end s r refl now.time (omega arith) (rw now.nobody refl))
-      (and_true (is_next s w.book.time t.slot t.env) (excess_in s t.env == 0) (next_true s cursor excess t.slot t.env below now next) owes)) refl
+      (and_true (is_next s w.book.time t.slot t.env) (excess_in s t.env == 0) (next_true s cursor excess t.slot t.env below now lives next) owes)) refl
   turn_fits (p ∷ pays) t s cursor excess below now (next, owing, rest) end later ends =
       let r = row.Pay w.book.time p.slot p.env in
       let more = map (pay_row w.book.time) pays ++ row.Run w.book.time t.slot t.env ∷ [] in
@@ -181,7 +182,7 @@ module _ (q : ℕ) (w : World) (least : 1 ≤ q) (live : AreSlotsLive w w.book.s
       let there : p.slot < w.book.slot_count = slot_below cursor p.slot next.steps below next.stands in
       and_true (is_fit q end s r (more ++ later)) (are_fit q end (after_row r s) more later)
       (and_true _ _ (in_time q end s r refl now.time (omega arith) (rw now.nobody refl))
-      (and_true (is_next s w.book.time p.slot p.env) (nat_lt 0 (excess_in s p.env)) (next_true s cursor excess p.slot p.env below now next) owes))
+      (and_true (is_next s w.book.time p.slot p.env) (nat_lt 0 (excess_in s p.env)) (next_true s cursor excess p.slot p.env below now lives next) owes))
       (turn_fits pays t (after_row r s) p.slot (excess_after_forfeit p.env excess) there (paid s cursor excess p.slot p.env owing now) rest end later ends)
 
   pub turn_has : (pays : List Turn) (t : Turn) (s : LedgerState) (cursor : ℕ) (excess : ℕ → ℕ) → cursor < w.book.slot_count → Turns w s cursor excess

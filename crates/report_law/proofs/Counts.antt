@@ -1,6 +1,6 @@
 -- What rows that fit bound: their times, and how many of them are runs, pays and overs of an environment.
 use Rattle.std.proofs.Common.{arith, refl, sym, ◌∙◌, ap, subst, ◌≡◌, ◌<◌, ◌≤◌, ◌+◌, ◌-◌, ℕ, List, [], ◌∷◌, ◌++◌, Bool, true, false, ◌&&◌, Option, None, Some}
-use Rattle.std.specs.Prelude.{◌==◌, count_by, is_none, nat_le, nat_lt, if◌then◌else◌}
+use Rattle.std.specs.Prelude.{◌==◌, not, count_by, is_none, nat_le, nat_lt, if◌then◌else◌}
 use Rattle.std.specs.List.{AllByRecursion}
 use Rattle.std.proofs.lemmas.Bool.{and_parts, eqb-true, leb-true, ltb-true}
 use Rattle.std.proofs.lemmas.List.Sums.{sum_by-cons}
@@ -77,8 +77,8 @@ runs_it s slot e rest is = (and_parts (is_number e s.runner) (slot == s.cursor) 
 
 free_turn : (s : LedgerState) (t slot e : ℕ) (rest : Bool) → (is_next s t slot e && rest) ≡ true → (is_none s.runner ≡ true) × (t ≡ s.turn)
 free_turn s t slot e rest is =
-    let next = and_parts (is_none s.runner) ((t == s.turn) && (holds e (s.slots slot) && are_passed s slot)) (and_parts (is_next s t slot e) rest is).0 in
-    (next.0, eqb-true t s.turn (and_parts (t == s.turn) (holds e (s.slots slot) && are_passed s slot) next.1).0)
+    let next = and_parts (is_none s.runner) ((t == s.turn) && (not (s.dead e) && (holds e (s.slots slot) && are_passed s slot))) (and_parts (is_next s t slot e) rest is).0 in
+    (next.0, eqb-true t s.turn (and_parts (t == s.turn) (not (s.dead e) && (holds e (s.slots slot) && are_passed s slot)) next.1).0)
 
 graced : (q : ℕ) (s : LedgerState) → in_grace s.phase ≡ true → limit_in q s ≡ s.grace_start + q
 graced q s is = by_phase s.phase is
