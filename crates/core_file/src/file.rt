@@ -23,6 +23,8 @@ const NOTES: u32 = 4;
 const NOTES_ALIGNMENT: u32 = 4;
 /// The alignment of a run that may stand anywhere.
 const UNALIGNED: u32 = 1;
+/// How many values a half word has.
+const HALF_VALUES: usize = 65_536;
 
 /// Appends the file header, for so many program headers.
 #[tactic(auto, unfolding(crate::specs::Core::core_header, elf_static::specs::Layout::identification))]
@@ -38,7 +40,7 @@ fn push_core_header(file: &mut Vec<u8>, headers: usize) -> Result<(), OutOfMemor
         &[
             FILE_HEADER_SIZE as u16,
             PROGRAM_HEADER_SIZE as u16,
-            (headers % 65_536) as u16,
+            (headers % HALF_VALUES) as u16,
             0,
             0,
             0,
