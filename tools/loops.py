@@ -1,35 +1,61 @@
-"""Loops without an end: where an environment that lives at the limit has gone round without a kernel call, by its trace."""
+"""Loops without an end: where an environment that lives at the limit has gone round without a kernel call, by its traces."""
 
 from __future__ import annotations
 
-from typing import Dict, List, Optional, Set, Tuple
+import re
+from typing import Dict, List, Optional, Set
 
 from places import Line, Places
-from refused_calls import CALL_NAME
+from trace_calls import WORD, tick_at
 
 LEAST_ROUNDS = 8  # steps at each of a loop's addresses, on average, so that it counts as one
 MOST_STRETCHES = 3  # of lines that are named
+STEP = re.compile(r"\n\d+ (\w{8}) ")
+BLOCK = 1 << 16  # characters of a trace that are looked at together
+MOST_ALTERNATIVES = 64  # addresses that a pattern names
 
 
-def last_steps(text: str) -> List[Tuple[int, int]]:
-    """The tick and the address of each step after the last kernel call of a trace, the last step first."""
-    found: List[Tuple[int, int]] = []
-    for line in reversed(text.split("\n")[1:-3]):
-        words = line.split(" ", 4)
-        if words[3] == CALL_NAME:
-            break
-        found.append((int(words[0]), int(words[1], 16)))
-    return found
+def loop(text: str) -> Set[str]:
+    """The few addresses, as digits, at which the last steps of a trace are, each many times, without a call; none where it is no loop."""
+    steps = STEP.findall(text, max(text.rfind(WORD), 0))
+    addresses = set(steps[len(steps) - len(steps) // 2:])
+    return addresses if len(steps) // 2 >= LEAST_ROUNDS * len(addresses) else set()
 
 
-def loop(text: str) -> Optional[Tuple[int, Set[int]]]:
-    """Since when the last steps of a trace are at few addresses, each many times, and which those are."""
-    steps = last_steps(text)
-    addresses = {pc for _, pc in steps[: len(steps) // 2]}
-    if not addresses or len(steps) // 2 < LEAST_ROUNDS * len(addresses):
-        return None
-    since = next((tick for (tick, _), (_, before) in zip(steps, steps[1:]) if before not in addresses), steps[-1][0])
-    return since, addresses
+class Start:
+    """Since when an environment goes round at some addresses without a call, by its traces one after another."""
+
+    def __init__(self, addresses: Set[str]):
+        self.addresses = addresses
+        self.since: Optional[int] = None  # none where no step of the loop is known yet
+        self.is_older = False  # whether ticks before that one weren't looked at
+        others = f"(?!{'|'.join(sorted(addresses))})" if len(addresses) <= MOST_ALTERNATIVES else ""
+        self.other = re.compile(rf"\n\d+ {others}(\w{{8}}) ")
+
+    def begin(self) -> None:
+        """Goes on after ticks that aren't looked at."""
+        self.since, self.is_older = None, True
+
+    def last_other(self, text: str, end: int) -> int:
+        """The place of the last line before the end that isn't of the loop, or -1."""
+        high = end
+        while high > 0:
+            low = max(text.rfind("\n", 0, max(high - BLOCK, 0)), 0)
+            found = [it.start() for it in self.other.finditer(text, low, high) if it[1] not in self.addresses]
+            if found:
+                return max(found[-1], text.rfind(WORD, 0, end))
+            high = low
+        return text.rfind(WORD, 0, end)
+
+    def add(self, text: str) -> None:
+        """Takes the next trace."""
+        end = text.rindex("\nend ")
+        last = self.last_other(text, end)
+        place = text.find("\n", last + 1, end)
+        if last >= 0 or self.since is None:
+            self.since = tick_at(text, place) if place >= 0 else None
+        if last >= 0:
+            self.is_older = False
 
 
 def lines_of(addresses: Set[int], places: Places) -> str:
@@ -56,13 +82,11 @@ def lines_of(addresses: Set[int], places: Places) -> str:
     return f"line{'s' if len(numbers) > 1 else ''} {' and '.join(shown)}{more}"
 
 
-def loop_line(text: str, first: int, places: Places, pc: int) -> List[str]:
-    """What is said of an environment that lives at the limit, where it is at this address, and this is its trace from a tick on."""
-    found = loop(text)
-    if found is None or pc not in found[1]:
+def loop_line(start: Start, places: Places, pc: int) -> List[str]:
+    """What is said of an environment that lives at the limit, where it is at this address."""
+    if f"{pc:08x}" not in start.addresses or start.since is None:
         return []
-    since, addresses = found
+    addresses = {int(it, 16) for it in start.addresses}
     where = lines_of(addresses, places) or f"0x{min(addresses):08x} to 0x{max(addresses):08x}"
-    is_older = first > 0 and since == int(text.split("\n", 2)[1].split(" ", 1)[0])
-    before = " or before" if is_older else ""
-    return [f"   since tick {since:,}{before} it goes round {where} without a call"]
+    before = " or before" if start.is_older else ""
+    return [f"   since tick {start.since:,}{before} it goes round {where} without a call"]

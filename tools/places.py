@@ -77,6 +77,11 @@ class Places:
         label = next(name for place, name in self.order if place == begin)
         return label if address == begin else f"{label}+{address - begin}"
 
+    def where(self, address: int) -> str:
+        """The file and the line of an instruction, or where it is."""
+        line = self.lines.get(address)
+        return f"{line.file}:{line.number}" if line else f"at 0x{address:08x}"
+
     def of_line(self, file: str, number: int) -> Tuple[int, List[int]]:
         """The addresses of the instructions of a line, or of the next one that has some, and its number; of the first file where
         none is named."""
