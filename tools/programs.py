@@ -80,15 +80,17 @@ class Program:
 
 @dataclass
 class Machine:
-    """A machine of the run: the folder with its files, its programs, and its schedule as it is shown, if it has one."""
+    """A machine of the run: the folder with its files, its programs, and its schedule as it is shown, if it has one, with the file
+    that has it there."""
 
     room: str
     programs: List[Program]
     schedule: Optional[str]
+    events: str = "try.sch"
 
     def files(self) -> List[str]:
         """The image and the schedule, from its folder."""
-        return ["try.img", "try.sch" if self.schedule else os.devnull]
+        return ["try.img", self.events if self.schedule else os.devnull]
 
 
 Again = Callable[[int], Report]  # a machine's report of a run with another limit

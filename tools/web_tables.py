@@ -7,9 +7,11 @@ from typing import Any, Dict
 import faults
 import flow
 import kernel_calls
+import kernel_layout
 import limits
 import manifests
 import refusals
+import refused_calls
 import source
 from knowledge import NAMES
 from programs import tool
@@ -27,6 +29,7 @@ def of_limits() -> Dict[str, Any]:
         "leastPages": limits.LEAST_PAGES, "mostPages": refusals.MOST_PAGES, "mappings": limits.MOST_MAPPINGS, "packet": limits.MOST_PACKET_SIZE,
         "line": limits.MOST_LINE, "target": limits.MOST_TARGET, "asked": limits.MOST_ASKED,
         "versions": {number: {"pages": most.most_pages, "environments": most.most_environments} for number, most in limits.VERSIONS.items()},
+        "console": limits.CONSOLE_SIZE, "allButFull": refused_calls.ALL_BUT_FULL,
         "rows": {number: most.stripe_rows for number, most in limits.VERSIONS.items()},
     }
 
@@ -47,5 +50,8 @@ def of_sources() -> Dict[str, Any]:
 def tables() -> Dict[str, Any]:
     """All of it, by the names that web/ has for them."""
     calls = {number: {"name": it.name, "arguments": it.arguments} for number, it in kernel_calls.CALLS.items()}
+    posts = {name: kernel_layout.CONTEXT_VPN * limits.PAGE_SIZE + place
+             for name, place in (("arrived", kernel_layout.POST_PACKETS), ("lost", kernel_layout.POST_LOST))}
     return {**of_sources(), "limits": of_limits(), "causes": CAUSES, "usually": TRY.USUALLY, "noSmallData": TRY.NO_SMALL_DATA,
-            "refusals": refusals.KINDS, "calls": calls, "answers": kernel_calls.ANSWERS, "kinds": kernel_calls.KINDS, "names": NAMES, "exceptions": EXCEPTIONS}
+            "refusals": refusals.KINDS, "calls": calls, "answers": kernel_calls.ANSWERS,
+            "consoleFull": kernel_calls.CONSOLE_FULL, "posts": posts, "kinds": kernel_calls.KINDS, "names": NAMES, "exceptions": EXCEPTIONS}

@@ -9,6 +9,7 @@ from limits import MOST_MACHINES
 from packets import NO_WIRE, Packet, packets_text, reports, wired_schedule
 from programs import REFUSED, USAGE, Again, Failed, Machine, aegis, bad_schedule, content, made_machine, refusal, reported, write
 
+WIRED = "wired.sch"  # a machine's schedule under which it runs alone as on the wire
 Named = Tuple[str, Optional[str]]  # a manifest, and its schedule if there is one
 
 
@@ -60,4 +61,4 @@ def keep_packets(machines: List[Machine], sent: List[Packet], delay: int, room: 
     write(f"{room}/try.packets", packets_text(delay, sent).encode())
     for at, machine in enumerate(machines):
         own = content(f"{machine.room}/try.sch").decode("latin-1") if machine.schedule else ""
-        write(f"{machine.room}/wired.sch", wired_schedule(own, sent, at, len(machines), delay).encode("latin-1"))
+        write(f"{machine.room}/{WIRED}", wired_schedule(own, sent, at, len(machines), delay).encode("latin-1"))

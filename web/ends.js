@@ -1,12 +1,16 @@
 // How each environment of a run ended, in the words of tools/try.
 
+import { howItCame } from "./deaths.js";
+import { callLines } from "./looking.js";
+import { loopLine } from "./loops.js";
 import { placesOf } from "./places.js";
+import { consoleLines } from "./refused.js";
 import { DATA } from "./source.js";
 import { tables } from "./tables.js";
 import { address, counted, shown, utf8 } from "./text.js";
 
 // What begins a line of tools/try: how an environment ended, and what stands below that.
-const OWN_LINE = /^(?:-- |   (at 0x|it |and [0-9]|since tick |from tick |usually: |[0-9a-f]{8} [0-9a-f]{8} |\S+:[0-9]+: ))/;
+const OWN_LINE = /^(?:-- |   (at 0x|it |and [0-9]|since tick |called from |after lines? |usually: |[0-9a-f]{8} [0-9a-f]{8} |\S+:[0-9]+: ))/;
 const MOST_CONSOLE = 200; // lines of a console that are shown
 const OF_AN_ACCESS = ["mod", "tlbl", "tlbs", "adel", "ades"];
 
@@ -38,7 +42,7 @@ export function place(program, env, withAddress) {
 }
 
 /** The lines of a console, of a long one those at both ends. One that looks like a line of tools/try has its first character as digits. */
-function consoleLines(bytes) {
+function consoleText(bytes) {
   const text = utf8(bytes).replace(/\n+$/, "");
   const escaped = line => `\\x${line.codePointAt(0).toString(16).padStart(2, "0")}${line.slice(line.codePointAt(0) > 0xffff ? 2 : 1)}`;
   const lines = text ? shown(text).split("\n").map(line => OWN_LINE.test(line) ? escaped(line) : line) : [], left = lines.length - MOST_CONSOLE;
@@ -47,21 +51,30 @@ function consoleLines(bytes) {
   return [...lines.slice(0, half), note, ...lines.slice(-half)];
 }
 
-/** Each environment's console, how it ended, and which of its calls were refused. `again` answers the report of another limit. */
-export function endings(report, programs, again, refused) {
+/** How an environment died in a tick: the lines, and the place in its source. */
+function death(report, workshop, env, tick, trace) {
+  const program = workshop.programs[env.number], before = workshop.report(tick).environments[env.number];
+  // where its slice begins in this tick, a handler of starts may have been entered before the instruction
+  const stood = place(program, before, OF_AN_ACCESS.includes(env.why));
+  const way = howItCame(report, env.number, workshop.core(tick, env.number), program, placesOf(program), trace);
+  const head = `-- ${env.number} ${env.name}: dead ${env.why} in tick ${counted(tick)}: ${tables.causes[env.why]}`;
+  return { at: stood.at, ended: [head, ...stood.lines, ...way, `   usually: ${tables.usually[env.why]}`] };
+}
+
+/** Each environment's console, how it ended, and what was found of its calls. */
+export function endings(report, workshop, looks) {
   const ended = new Map(report.marks.filter(it => it.kind === "dead" || it.kind === "exit").map(it => [it.env, it.time]));
+  const { programs } = workshop, calls = callLines(looks, programs);
   return report.environments.slice(0, programs.length).map((env, at) => {
-    const who = `-- ${env.number} ${env.name}:`, tick = ended.get(env.number), console = consoleLines(env.console);
-    const found = { env, console, refused: refused[at] ?? [], tick };
+    const who = `-- ${env.number} ${env.name}:`, tick = ended.get(env.number), { loop, refused, last } = looks[at];
+    const found = { env, console: consoleText(env.console), refused: [...consoleLines(env, refused), ...calls[at]], tick };
     if (env.life === "live") {
       const how = report.ending === "limit" ? "alive at the limit" : "alive, without a slot", stands = place(programs[at], env, false);
-      return { ...found, ended: [`${who} ${how}, after ${counted(report.time)} ticks`, ...stands.lines], at: stands.at };
+      const round = loop.addresses.size ? loopLine(loop, placesOf(programs[at]), env.cpu.pc) : [];
+      return { ...found, ended: [`${who} ${how}, after ${counted(report.time)} ticks`, ...stands.lines, ...round], at: stands.at };
     }
     if (env.life === "exit") return { ...found, ended: [`${who} exit ${env.why} in tick ${counted(tick)}`], at: null };
-    // where its slice begins in this tick, a handler of starts may have been entered before the instruction
-    const stood = place(programs[at], again(tick).environments[env.number], OF_AN_ACCESS.includes(env.why));
-    return { ...found, at: stood.at, ended: [`${who} dead ${env.why} in tick ${counted(tick)}: ${tables.causes[env.why]}`, ...stood.lines,
-      `   usually: ${tables.usually[env.why]}`] };
+    return { ...found, ...death(report, workshop, env, tick, last) };
   });
 }
 

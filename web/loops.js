@@ -1,29 +1,51 @@
 // Loops without an end, as tools/loops.py finds them: where an environment that lives at the limit has gone round without a kernel call.
 
-import { tables } from "./tables.js";
+import { tickAt } from "./reader.js";
 import { address, counted } from "./text.js";
 
 const LEAST_ROUNDS = 8; // steps at each of a loop's addresses, on average, so that it counts as one
 const MOST_STRETCHES = 3; // of lines that are named
+const DIGITS = 8, OPERATION = 19; // of an address; the place of the instruction after the blank that ends a line's tick
 
-/** The tick and the address of each step after the last kernel call of a trace, the last step first. */
-function lastSteps(text) {
-  const found = [], first = text.indexOf("\n") + 1;
-  for (let to = text.lastIndexOf("\nend "); to >= first; ) {
-    const from = text.lastIndexOf("\n", to - 1) + 1, gap = text.indexOf(" ", from);
-    if (/^syscall[ \n]/.test(text.slice(gap + 19, gap + 27))) break;
-    found.push([Number(text.slice(from, gap)), parseInt(text.slice(gap + 1, gap + 9), 16)]);
-    to = from - 1;
+/** The lines of a trace, the last one first: the place before each, its address as digits, and whether it is a SYSCALL. */
+function* linesBackwards(text) {
+  const first = text.indexOf("\n");
+  for (let to = text.lastIndexOf("\nend "); to > first; ) {
+    const place = text.lastIndexOf("\n", to - 1), gap = text.indexOf(" ", place + 1);
+    yield { place, pc: text.slice(gap + 1, gap + 1 + DIGITS), isCall: text.startsWith("syscall", gap + OPERATION) };
+    to = place;
   }
-  return found;
 }
 
-/** Since when the last steps of a trace are at few addresses, each many times, and which those are. */
-function loopOf(text) {
-  const steps = lastSteps(text), half = Math.floor(steps.length / 2), addresses = new Set(steps.slice(0, half).map(it => it[1]));
-  if (!addresses.size || half < LEAST_ROUNDS * addresses.size) return null;
-  const at = steps.findIndex((_, place) => place + 1 < steps.length && !addresses.has(steps[place + 1][1]));
-  return { since: steps.at(at)[0], addresses };
+/** The few addresses, as digits, at which the last steps of a trace are, each many times, without a call; none where it is no loop. */
+export function loopOf(text) {
+  const steps = [];
+  for (const { pc, isCall } of linesBackwards(text)) {
+    if (isCall) break;
+    steps.push(pc);
+  }
+  const half = Math.floor(steps.length / 2), addresses = new Set(steps.slice(0, half));
+  return half >= LEAST_ROUNDS * addresses.size ? addresses : new Set();
+}
+
+/** Since when an environment goes round at some addresses without a call, by its traces one after another. */
+export class Start {
+  constructor(addresses) {
+    Object.assign(this, { addresses, since: null }); // none where no step of the loop is known yet
+  }
+
+  /** Takes the next trace. */
+  add(text) {
+    let after = -1; // the place before the first line that is of the loop, of those at the end
+    for (const { place, pc, isCall } of linesBackwards(text)) {
+      if (isCall || !this.addresses.has(pc)) {
+        this.since = after < 0 ? null : tickAt(text, after);
+        return;
+      }
+      after = place;
+    }
+    if (this.since === null && after >= 0) this.since = tickAt(text, after);
+  }
 }
 
 /** The lines of some addresses, as stretches: `lines 3 to 5`; nothing where some have none. */
@@ -42,12 +64,10 @@ function linesOf(addresses, places) {
   return `line${numbers.length > 1 ? "s" : ""} ${said.join(" and ")}${stretches.length > MOST_STRETCHES ? " and more" : ""}`;
 }
 
-/** What is said of an environment that lives at the limit, where it stands at this address, and its trace is this. */
-export function loopLine(text, places, ticks, pc) {
-  const found = loopOf(text), most = tables.limits.traced;
-  if (!found || !found.addresses.has(pc)) return [];
-  const { since, addresses } = found, order = [...addresses].sort((one, two) => one - two);
-  const where = linesOf(addresses, places) || `0x${address(order[0])} to 0x${address(order.at(-1))}`;
-  return [ticks > most ? `   from tick ${counted(since)} to ${counted(most - 1)} it goes round ${where} without a call, and there it is at the limit`
-    : `   since tick ${counted(since)} it goes round ${where} without a call`];
+/** What is said of an environment that lives at the limit, where it is at this address. */
+export function loopLine({ addresses, since }, places, pc) {
+  if (!addresses.has(address(pc)) || since === null) return [];
+  const numbers = new Set([...addresses].map(it => parseInt(it, 16))), order = [...numbers].sort((one, two) => one - two);
+  const where = linesOf(numbers, places) || `0x${address(order[0])} to 0x${address(order.at(-1))}`;
+  return [`   since tick ${counted(since)} it goes round ${where} without a call`];
 }

@@ -2,7 +2,7 @@
 // file that has them. Lines of a program in C want the compiler's own tool, which isn't here.
 
 import { DATA } from "./source.js";
-import { decoded, utf8 } from "./text.js";
+import { address as eight, decoded, utf8 } from "./text.js";
 
 const FIRST_WORDS = { li: "lui", la: "lui", move: "addu", b: "beq", nop: "sll" };
 const FAR = 1 << 16;
@@ -11,8 +11,8 @@ const ANY_KIND = 0, OBJECT = 1, FUNCTION = 2; // kinds of symbols
 
 /** The labels and lines of a program, by address. */
 export class Places {
-  constructor(labels = new Map(), lines = new Map(), sources = new Map()) {
-    Object.assign(this, { labels, lines, sources });
+  constructor(labels = new Map(), lines = new Map(), sources = new Map(), functions = new Map()) {
+    Object.assign(this, { labels, lines, sources, functions }); // functions are labels at which a function of C begins
     this.order = [...labels].map(([name, address]) => ({ name, address }));
     this.order.sort((one, two) => one.address - two.address || (one.name < two.name ? -1 : 1));
   }
@@ -30,6 +30,12 @@ export class Places {
     if ((begin >= DATA) !== (address >= DATA) || address - begin >= FAR) return "";
     const label = this.order.find(it => it.address === begin).name;
     return address === begin ? label : `${label}+${address - begin}`;
+  }
+
+  /** The file and the line of an instruction, or where it is. */
+  where(at) {
+    const line = this.lines.get(at);
+    return line ? `${line.file}:${line.number}` : `at 0x${eight(at)}`;
   }
 }
 
@@ -58,11 +64,10 @@ function ofSource(program) {
 
 /** The symbols of an ELF file that was given as one. */
 function ofFile(program) {
-  const labels = new Map();
-  if (!program.source && !program.isMade) {
-    for (const [name, address] of symbols(program.file)) if (!name.startsWith("_")) labels.set(name.split(".")[0], address);
-  }
-  return new Places(labels);
+  const found = program.source || program.isMade ? [] : [...symbols(program.file)].filter(([name]) => !name.startsWith("_"));
+  const labels = new Map(found.map(([name, address]) => [name.split(".")[0], address]));
+  const functions = found.filter(([, , type]) => type === FUNCTION).map(([name, address]) => [name.split(".")[0], address]);
+  return new Places(labels, new Map(), new Map(), new Map(functions));
 }
 
 /** The sections of an ELF file, where it has some. */
@@ -86,7 +91,7 @@ function* symbols(file) {
       const place = view.getUint32(at, true), type = content[at + 12] & 15, part = view.getUint16(at + 14, true);
       const name = utf8(table.subarray(place, table.indexOf(0, place)));
       const isNamed = type === FUNCTION || type === OBJECT || type === ANY_KIND && /^[A-Za-z_]\w*$/.test(name);
-      if (part && part < 0xff00 && isNamed) yield [name, view.getUint32(at + 4, true)];
+      if (part && part < 0xff00 && isNamed) yield [name, view.getUint32(at + 4, true), type];
     }
   }
 }

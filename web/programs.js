@@ -2,6 +2,7 @@
 // run by a schedule. Files are the page's; what is made of them is kept in a room, a Map of names and bytes.
 
 import { eventAdvice, meaning } from "./advice.js";
+import { Core } from "./cores.js";
 import { faultsOf, plain } from "./faults.js";
 import { badImage } from "./images.js";
 import { warnings } from "./lint.js";
@@ -209,6 +210,24 @@ export class Workshop {
     const { status, output } = this.aegis("trace", "try.img", "try.sch", String(Math.min(ticks, tables.limits.traced)), String(env));
     if (status) throw new Failed(status, [`\`trace\` ended with ${status}`]);
     return ascii(output);
+  }
+
+  /** The text of an environment's trace in a window. */
+  traceOf(env, { first, end }) {
+    const { status, output } = this.aegis("trace", "try.img", "try.sch", String(end), String(env), ...(first ? [String(first)] : []));
+    if (status) throw new Failed(status, [`\`trace\` ended with ${status}`]);
+    return ascii(output);
+  }
+
+  /** The state of an environment after some ticks, or null where it doesn't live then. */
+  core(ticks, env) {
+    const { status, output } = this.aegis("core", "try.img", "try.sch", String(ticks), String(env));
+    return status ? null : new Core(output);
+  }
+
+  /** The image's version, which its magic has: `AEG1` or `AEG2`. */
+  version() {
+    return Number(String.fromCharCode(this.content("try.img")[3]));
   }
 }
 
