@@ -102,9 +102,10 @@ def call_line(calls: List[int], places: Places) -> Iterator[str]:
 def lines_before(trace: str, places: Places) -> Iterator[str]:
     """What is said of the lines that were run before the last one."""
     steps = STEP.findall(trace, max(len(trace) - BLOCK, 0), trace.rindex("\nend "))
-    found: List[Line] = [line for line, _ in groupby(line for line in (places.lines.get(int(it, 16)) for it in steps) if line)]
-    before = found[-MOST_LINES - 1:-1]
-    is_one_file = len({it.file for it in found[-MOST_LINES - 1:]}) == 1
+    lines = [places.lines.get(int(it, 16)) for it in steps]
+    found: List[Line] = [line for line, _ in groupby(line for line in lines if line)]
+    before = (found[:-1] if lines and lines[-1] else found)[-MOST_LINES:]
+    is_one_file = len({it.file for it in before}) == 1
     names = [str(it.number) if is_one_file else f"{it.file}:{it.number}" for it in before]
     if names:
         yield f"   after line{'s' if len(names) > 1 else ''} {' and '.join([', '.join(names[:-1]), names[-1]] if len(names) > 1 else names)}"

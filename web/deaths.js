@@ -88,8 +88,9 @@ function callLine(calls, places) {
 /** What is said of the lines that were run before the last one. */
 function linesBefore(trace, places) {
   const steps = [...trace.slice(Math.max(trace.length - BLOCK, 0), trace.lastIndexOf("\nend ")).matchAll(STEP)].map(it => parseInt(it[1], 16));
-  const last = groups(steps.map(it => places.lines.get(it)).filter(it => it)).map(([line]) => line).slice(-MOST_LINES - 1);
-  const isOneFile = new Set(last.map(it => it.file)).size === 1, names = last.slice(0, -1).map(it => isOneFile ? String(it.number) : `${it.file}:${it.number}`);
+  const lines = steps.map(it => places.lines.get(it)), found = groups(lines.filter(it => it)).map(([line]) => line);
+  const before = (lines.at(-1) ? found.slice(0, -1) : found).slice(-MOST_LINES), isOneFile = new Set(before.map(it => it.file)).size === 1;
+  const names = before.map(it => isOneFile ? String(it.number) : `${it.file}:${it.number}`);
   if (!names.length) return [];
   return [names.length > 1 ? `   after lines ${names.slice(0, -1).join(", ")} and ${names.at(-1)}` : `   after line ${names[0]}`];
 }
