@@ -19,6 +19,8 @@ class Board:
     interrupts. It runs as long as one likes."""
 
     def __init__(self, lab: Lab, values: Dict[str, int], period: int):
+        if lab.is_c:
+            raise Missing("A board without the kernel runs a source in assembly, and no program in C.")
         self.lab, self.period = lab, period
         self.room = lab.folder_of({f"{lab.name}.s": values})
         with open(f"{self.room}/{lab.name}.s", encoding="latin-1", newline="\n") as file:

@@ -1,5 +1,5 @@
-"""What the checkers of the exercises have in common: a student's source is run as the exercise's manifests say, and what
-is read of the runs are their reports (tools/report.py).
+"""What the checkers of the exercises have in common: a student's source, in assembly or in C, is run as the exercise's manifests
+say, and what is read of the runs are their reports (tools/report.py).
 
 A checker has a list of demands, the numbered ones of the exercise's README, and makes its checks on a `Sheet`. A check
 raises `Missing` with a sentence. Raised on the sheet, it is what is missing of a demand; raised elsewhere, nothing more
@@ -24,6 +24,7 @@ from typing import Callable, Dict, Iterable, Iterator, List, Optional, Sequence,
 LABS = os.path.dirname(os.path.realpath(__file__))
 TOOLS = f"{os.path.dirname(LABS)}/tools"
 sys.path.insert(0, TOOLS)
+import c_sources
 import kernel_calls
 from built import program
 from instructions import access, is_jump, is_store
@@ -235,6 +236,8 @@ class Machine:
         if not cpu:
             return []
         name = f"{os.path.splitext(self.files[env])[0]}.s"
+        if self.lab is not None and self.lab.is_c and name == f"{self.lab.name}.s":
+            return c_sources.place(self.lab.shown, self.room, self.lab.name, cpu.pc)
         with open(f"{self.room}/{name}", encoding="latin-1", newline="\n") as file:
             statement = read_source(file.read()).at(cpu.pc)
         if not statement:
@@ -295,22 +298,39 @@ class Lab:
         self.source, self.folder, self.room = os.path.abspath(source), folder, room
         self.shown = shown(source)
         self.name = os.path.basename(folder)
+        self.is_c = c_sources.is_c(source)
         self.folders = 0
+        self.compiled: Dict[Tuple[Tuple[str, int], ...], bytes] = {}  # ELF files of a source in C, by the values in it
 
     def folder_of(self, values: Values) -> str:
-        """A folder with the exercise's files and the source, all assembled with these values in place of the sources' own."""
+        """A folder with the exercise's files and the source, all assembled or compiled with these values in place of the sources' own."""
         self.folders += 1
-        room = f"{self.room}/{self.folders}"
+        room, own = f"{self.room}/{self.folders}", f"{self.name}.s"
         os.mkdir(room)
         for name in os.listdir(self.folder):
-            if name.endswith((".s", ".txt")):
+            if name.endswith((".s", ".txt")) and name != own:
                 # the contents alone: an installation may be read-only
                 shutil.copyfile(f"{self.folder}/{name}", f"{room}/{name}")
-        shutil.copyfile(self.source, f"{room}/{self.name}.s")
+        if self.is_c:
+            self.compile(room, values.get(own, {}))
+        else:
+            shutil.copyfile(self.source, f"{room}/{own}")
         for name in sorted(os.listdir(room)):
             if name.endswith(".s"):
                 self.assemble(room, name, values.get(name, {}))
         return room
+
+    def compile(self, room: str, values: Dict[str, int]) -> None:
+        """Makes the ELF file of the source, which is in C, with these values."""
+        key = tuple(sorted(values.items()))
+        try:
+            c_sources.put(self.source, room, self.name, values)
+            if key not in self.compiled:
+                self.compiled[key] = c_sources.compiled(self.source, self.shown, room, self.name)
+        except c_sources.Refused as why:
+            raise Missing(str(why), *why.lines) from None
+        with open(f"{room}/{self.name}.elf", "wb") as file:
+            file.write(self.compiled[key])
 
     def machine(self, manifest: str, values: Optional[Values] = None, quantum: Optional[int] = None) -> Machine:
         """The machine of a manifest, in which these values stand in place of the sources' own, and slices are as long
@@ -320,8 +340,10 @@ class Lab:
             text = file.read()
         if quantum is not None:
             text = re.sub(r"(?m)^quantum \d+", f"quantum {quantum}", text)
-            with open(f"{room}/{manifest}", "w", encoding="ascii") as file:
-                file.write(text)
+        if self.is_c:
+            text = re.sub(rf"(?m)^(env \w+ elf) 0 (.* {self.name}\.elf)$", rf"\1 {c_sources.STACK} \2", text)
+        with open(f"{room}/{manifest}", "w", encoding="ascii") as file:
+            file.write(text)
         with open(f"{room}/image", "wb") as image:
             image.write(aegis("image", manifest, cwd=room))
         return Machine(self, room, "image", re.findall(r"(?m)^env .* (\S+)$", text))
@@ -350,7 +372,9 @@ class Lab:
         return [f"   {line}" for line in ran.stdout.decode(errors="replace").replace(self.source, self.shown).splitlines()]
 
     def warnings(self) -> List[str]:
-        """What tools/lint warns of in the source."""
+        """What tools/lint warns of in the source, which has no words for one in C."""
+        if self.is_c:
+            return []
         with open(self.source, encoding="latin-1", newline="\n") as file:
             found: List[str] = loaded(f"{TOOLS}/lint").shown_warnings(self.shown, read_source(file.read()))
         return found
@@ -432,7 +456,7 @@ def main(check: Callable[[Lab, Sheet], str], demands: Sequence[str], script: str
     unchanged source too."""
     folder = os.path.dirname(os.path.realpath(script))
     if len(sys.argv) != 2 or not os.path.isfile(sys.argv[1]) or not os.access(sys.argv[1], os.R_OK):
-        print(f"{script} SOURCE: a source in assembly", file=sys.stderr)
+        print(f"{script} SOURCE: a source in assembly or in C", file=sys.stderr)
         return 2
     open_output()
     with tempfile.TemporaryDirectory(prefix="aegis-lab-") as room:
