@@ -51,17 +51,17 @@ class Looker:
 
     def looked(self) -> Looked:
         """All that is found."""
-        last = trace_text(self.machine, self.env, self.windows[-1])
-        start = Start(loop(last) if self.is_cut else set())
+        end = self.windows[-1]
+        last = trace_text(self.machine, self.env, end)
+        start = Start(loop(last) if self.is_cut else set(), end.is_apart)
         for window in self.windows:
             if window.is_apart:
                 self.go_on(window.first)
-                start.begin()
-            text = last if window is self.windows[-1] else trace_text(self.machine, self.env, window)
+            text = last if window is end else trace_text(self.machine, self.env, window)
             for call in self.reader.calls(text):
                 self.refused.note(call)
                 self.stripe.note(call)
-            if start.addresses:
+            if start.addresses and end.is_apart in (False, window.is_apart):
                 start.add(text)
         return Looked(start, list(self.refused.found.values()), self.stripe.all(), self.stripe.rows, last)
 

@@ -25,16 +25,12 @@ def loop(text: str) -> Set[str]:
 class Start:
     """Since when an environment goes round at some addresses without a call, by its traces one after another."""
 
-    def __init__(self, addresses: Set[str]):
+    def __init__(self, addresses: Set[str], is_apart: bool = False):
         self.addresses = addresses
         self.since: Optional[int] = None  # none where no step of the loop is known yet
-        self.is_older = False  # whether ticks before that one weren't looked at
+        self.is_older = is_apart  # whether ticks right before that one weren't looked at
         others = f"(?!{'|'.join(sorted(addresses))})" if len(addresses) <= MOST_ALTERNATIVES else ""
         self.other = re.compile(rf"\n\d+ {others}(\w{{8}}) ")
-
-    def begin(self) -> None:
-        """Goes on after ticks that aren't looked at."""
-        self.since, self.is_older = None, True
 
     def last_other(self, text: str, end: int) -> int:
         """The place of the last line before the end that isn't of the loop, or -1."""
