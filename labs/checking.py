@@ -30,11 +30,11 @@ from built import program
 from instructions import access, is_jump, is_store
 from loading import loaded
 from packets import NO_WIRE, reports
-from recording import Row, read_trace
-from knowledge import FIRST_STACK, HI, LO, SP
+from registers import FIRST_STACK, HI, LO, SP
 from report import CAUSES, Cpu, Environment, Lines, Mark, Report, read, read_head
 from shown import decoded, open_output, shown
 from source import read_source
+from trace_lines import Row, read_trace
 
 ANSWERS = dict(enumerate(kernel_calls.ANSWERS))  # the names of codes
 CALLS = [it.name for _, it in sorted(kernel_calls.CALLS.items())]
@@ -89,7 +89,7 @@ class Sheet:
 
 @dataclass
 class Step:
-    """A step of an environment, and its registers before it: `$0` to `$31`, HI and LO by their places in tools/knowledge.py."""
+    """A step of an environment, and its registers before it: `$0` to `$31`, HI and LO by their places in tools/registers.py."""
 
     row: Row
     registers: List[int]
@@ -169,7 +169,7 @@ class Machine:
         entered = [it.time for it in self.run(ticks).marks if it.kind in ("async", "sync") and it.env == env]
         registers = [0] * (LO + 1)
         registers[SP] = FIRST_STACK
-        for row in read_trace(text).rows:
+        for row in read_trace(text):
             if entered and entered[0] < row.tick:
                 registers = self.known(env, row.tick, registers)
                 entered = [it for it in entered if it >= row.tick]

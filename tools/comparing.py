@@ -9,9 +9,9 @@ from typing import List, NamedTuple, Optional
 from limits import MOST_RUN_TICKS, MOST_TRACED_TICKS
 from packets import event_tick
 from programs import USAGE, Failed, Machine, aegis, content, write
-from recording import Row
 from report import Report
-from tracing import traced
+from moments import Moments
+from trace_lines import Row, read_trace
 
 SAME, FOUND = 0, 1
 NO_TWIN = "the program has no command `twin`: it is of an earlier release"
@@ -107,5 +107,6 @@ class Comparison:
         kind, *words = item.split()
         taken = any(it.kind == "take" and it.time == tick and it.row.split()[3:4] == words[:1] for it in report.marks)
         is_behind = kind in (*BEHIND_STEP, NONE) or kind == "lost" and not taken
-        rows = [row for row in traced(side.machine, tick + 1, self.env).rows if row.tick < tick + is_behind] if tick < MOST_TRACED_TICKS else []
+        first = max(0, tick + 1 - MOST_TRACED_TICKS)
+        rows = [row for row in read_trace(Moments(side.machine).trace(self.env, first, tick + 1)) if row.tick < tick + is_behind]
         return rows[-1] if rows else None

@@ -1,7 +1,8 @@
-"""Serves a recording to a debugger, as GDB, by its remote protocol on the loopback.
+"""Serves a run to a debugger, as GDB, by its remote protocol on the loopback.
 
-The run is what it is: registers and memory are read and never written, and a byte that isn't known is an error. It can be walked
-through forwards and backwards, and `continue` stops at breakpoints and at the ends of the recording.
+The run is what it is: registers and memory are read and never written, and to read where no page is is an error. It can be walked through
+forwards and backwards. `continue` stops at breakpoints, where a watched byte changes, and at the ends of the run; where a search gives up,
+it stops there, and says so.
 """
 
 from __future__ import annotations
@@ -10,17 +11,19 @@ import socket
 import sys
 from typing import Callable, Dict, List, Optional, Set, Tuple
 
-from knowledge import HI, LO, PC, Change, Unknown
-from limits import PAGE_SIZE
+import searching
+from moments import Memory
 from programs import say
+from registers import HI, LO
 from stepper import Stepper
+from steps import Found
 
 COUNTER, COUNT = 37, 38  # GDB's numbers of registers: after $31 stand status, LO, HI, bad address and cause
-UNKNOWN = "xxxxxxxx"
+ABSENT = "xxxxxxxx"
 STOPPED = "T05"  # by SIGTRAP
 FEATURES = "PacketSize=4000;ReverseStep+;ReverseContinue+;swbreak-;hwbreak-;vContSupported+"
 WRITE_WATCH = "2"  # the kind of a watchpoint at stores
-READ_ONLY, NOT_KNOWN, FORM = "E01", "E14", "E16"
+READ_ONLY, NO_PAGE, FORM = "E01", "E14", "E16"
 MOST_READ = 0x1000
 
 
@@ -30,32 +33,33 @@ def packet(text: str) -> bytes:
 
 
 class Session:
-    """A debugger's session over a recording. Its place is before the step that is made next."""
+    """A debugger's session over a run. Its place is before the step that is made next."""
 
     breakpoints: Set[int]  # addresses
     watched: Set[Tuple[int, int]]  # addresses, each with how many bytes
 
-    def __init__(self, stepper: Stepper):
-        self.stepper, self.breakpoints, self.watched = stepper, set(), set()
-        stepper.go(0)
-        stepper.known.apply(self.before_next())
-
-    def before_next(self) -> List[Change]:
-        """What the kernel did between the step that was made last and the next one."""
-        done, recording = self.stepper.done, self.stepper.recording
-        return recording.steps[done].kernel if done < len(recording.steps) else recording.tail
-
-    def go(self, done: int) -> None:
-        """Goes to behind so many steps and what the kernel did then."""
-        self.stepper.known.take_back(self.before_next())
-        self.stepper.go(done)
-        self.stepper.known.apply(self.before_next())
+    def __init__(self, stepper: Stepper, tick: int = 0):
+        self.steps, self.breakpoints, self.watched = stepper.steps, set(), set()
+        self.done = self.steps.turns.made(tick - 1) if tick else 0
+        self.seen: Optional[Tuple[int, Memory]] = None
+        self.told: List[str] = []  # for the debugger's own console
 
     @property
-    def pc(self) -> Optional[int]:
-        """Where the next step is made."""
-        done, steps = self.stepper.done, self.stepper.steps
-        return steps[done].row.pc if done < len(steps) else self.stepper.known.cells[PC]
+    def pc(self) -> int:
+        """Where the next step is made; after the last one where it would be, or the last one where it died of that."""
+        if self.done < len(self.steps):
+            place: int = self.steps[self.done].row.pc
+        elif self.steps.is_alive:
+            place = self.steps.run.moments.core(self.steps.number, self.steps.end).pc
+        else:
+            place = self.steps[self.done - 1].row.pc
+        return place
+
+    def found(self, done: int) -> Memory:
+        """The memory that the next step finds."""
+        if self.seen is None or self.seen[0] != done:
+            self.seen = done, self.steps.memory_found(done)
+        return self.seen[1]
 
     # What a debugger asks
 
@@ -85,28 +89,23 @@ class Session:
         except (ValueError, IndexError):
             return FORM
 
-    def value(self, number: int) -> str:
+    def value(self, number: int, registers: List[int]) -> str:
         """A register by GDB's number."""
         place = {33: LO, 34: HI}.get(number, number if number < 32 else None)
-        value = self.pc if number == COUNTER else None if place is None else self.stepper.known.registers[place]
-        return UNKNOWN if value is None else value.to_bytes(4, "little").hex()
+        value = self.pc if number == COUNTER else None if place is None else registers[place]
+        return ABSENT if value is None else value.to_bytes(4, "little").hex()
 
     def registers(self) -> str:
-        return "".join(self.value(number) for number in range(COUNT))
+        found = self.steps.found(self.done)
+        return "".join(self.value(number, found) for number in range(COUNT))
 
     def register(self, rest: str) -> str:
         number = int(rest, 16)
-        return self.value(number) if number < COUNT else UNKNOWN
+        return self.value(number, self.steps.found(self.done)) if number < COUNT else ABSENT
 
     def memory(self, rest: str) -> str:
         address, length = (int(part, 16) for part in rest.split(","))
-        found = bytearray()
-        for at in range(address, address + min(length, MOST_READ)):
-            try:
-                found.append(self.stepper.known.byte(at & 0xFFFFFFFF))
-            except Unknown:
-                break
-        return found.hex() or NOT_KNOWN
+        return self.found(self.done).read(address, min(length, MOST_READ)).hex() or NO_PAGE
 
     def set_breakpoint(self, rest: str) -> str:
         kind, address, length = rest.split(";")[0].split(",", 2)
@@ -125,50 +124,58 @@ class Session:
         return "OK"
 
     def changed(self, done: int) -> Optional[int]:
-        """The watched address whose bytes the step before this place changed, or the kernel behind it, if any."""
-        if not self.watched:
-            return None
-        steps, recording = self.stepper.steps, self.stepper.recording
-        after = steps[done].kernel if done < len(steps) else recording.tail
-        changes = {it.key for it in steps[done - 1].own + after if isinstance(it.key, tuple) and it.key[0] == "byte"}
-        for address, length in sorted(self.watched) if changes else ():
-            for at in range(address, address + length):
-                bound = self.stepper.known.page_at(at // PAGE_SIZE)
-                if bound is not None and ("byte", bound.page, at % PAGE_SIZE) in changes:
-                    return address
-        return None
+        """The watched address whose bytes are others after so many steps than a step before, if any."""
+        ranges = sorted(self.watched)
+        before = [self.found(done - 1).read(*it) for it in ranges]
+        after = [self.found(done).read(*it) for it in ranges]
+        return next((address for (address, _), one, other in zip(ranges, before, after) if one != other), None)
 
     def step(self, backwards: bool) -> str:
-        done = self.stepper.done + (-1 if backwards else 1)
-        if not 0 <= done <= len(self.stepper.steps):
+        done = self.done + (-1 if backwards else 1)
+        if not 0 <= done <= len(self.steps):
             return self.at_end(backwards)
-        self.go(done)
-        return STOPPED if done < len(self.stepper.steps) else self.at_end(False)
+        self.done = done
+        return STOPPED if done < len(self.steps) else self.at_end(False)
 
     def run(self, backwards: bool) -> str:
-        steps, done = self.stepper.steps, self.stepper.done
-        order = range(done - 1, -1, -1) if backwards else range(done + 1, len(steps))
-        for it in [*order, *([] if backwards else [len(steps)])] if self.watched else order:
-            place = it + 1 if backwards else it
-            if self.watched:
-                self.go(place)
-                address = self.changed(place) if place else None
-                if address is not None:
-                    self.go(it)
-                    return f"{STOPPED}watch:{address:x};"
-            if it < len(steps) and steps[it].row.pc in self.breakpoints:
-                self.go(it)
-                return STOPPED
-        self.go(0 if backwards else len(steps))
-        return self.at_end(backwards)
+        """Goes on to the next breakpoint or change, or the one before. A step has the breakpoint, or the change before the next one."""
+        stop, change, up_to = None, None, None
+        if self.breakpoints:
+            found = self.steps.search(self.done + 1, searching.at_addresses(self.breakpoints), lambda _: True, backwards)
+            stop, up_to = None if found.place is None else found.place - 1, found.up_to
+        if self.watched:
+            found = self.change(backwards, stop)
+            change, up_to = found.place, up_to if found.up_to is None else found.up_to
+        places = [it for it in (stop, change) if it is not None]
+        if not places and up_to is not None:
+            return self.given_up(up_to)
+        if not places:
+            self.done = 0 if backwards else len(self.steps)
+            return self.at_end(backwards)
+        nearest = max(places) if backwards else min(places)
+        address = self.changed(nearest) if nearest == change else None
+        self.done = nearest - 1 if backwards and address is not None else nearest
+        return STOPPED if address is None else f"{STOPPED}watch:{address:x};"
+
+    def change(self, backwards: bool, bound: Optional[int]) -> Found:
+        """The place after the next step that changes a watched byte, or the one before, up to where a breakpoint is."""
+        words = [word for address, length in self.watched for word in range(address & ~3, address + length, 4)]
+        start = self.done + 1 if backwards else self.done
+        return self.steps.search(start, self.steps.changes_at(words), lambda it: self.changed(it) is not None, backwards, bound or None)
+
+    def given_up(self, tick: int) -> str:
+        """Stops where a search gave up."""
+        self.done = self.steps.turns.made(tick - 1) if tick else 0
+        self.told.append(f"nothing was found up to tick {tick}: continue goes on from there\n")
+        return STOPPED
 
     def at_end(self, backwards: bool) -> str:
         return f"{STOPPED}replaylog:{'begin' if backwards else 'end'};"
 
 
-def serve(stepper: Stepper, port: int, symbols: str) -> None:
-    """Waits for one debugger, and answers it until it leaves. `symbols` is the path of the file that it reads symbols of, if any.
-    Port 0 is one that is free."""
+def serve(stepper: Stepper, port: int, symbols: str, tick: int = 0) -> None:
+    """Waits for one debugger, and answers it until it leaves. `symbols` is the path of the file that it reads symbols of, if any, and the
+    session begins before the first step from `tick` on. Port 0 is one that is free."""
     with socket.create_server(("127.0.0.1", port)) as server:
         port = server.getsockname()[1]
         say(f"{len(stepper.steps):,} steps wait at 127.0.0.1:{port}: gdb-multiarch{f' {symbols}' if symbols else ''} -ex 'target remote :{port}'")
@@ -176,7 +183,7 @@ def serve(stepper: Stepper, port: int, symbols: str) -> None:
         peer, _ = server.accept()
         with peer:
             peer.setsockopt(socket.IPPROTO_TCP, socket.TCP_NODELAY, 1)
-            converse(Session(stepper), peer)
+            converse(Session(stepper, tick), peer)
 
 
 def converse(session: Session, peer: socket.socket) -> None:
@@ -201,4 +208,7 @@ def converse(session: Session, peer: socket.socket) -> None:
             if answer is None:
                 peer.sendall(packet("OK"))
                 return
+            for line in session.told:
+                peer.sendall(packet(f"O{line.encode().hex()}"))
+            session.told.clear()
             peer.sendall(packet(answer))

@@ -451,15 +451,21 @@ def bad_schedule(shown: str, text: bytes, why: str, place: int) -> List[str]:
     return [f"{shown}:{place}: {why}: {refusals.meaning('schedule', why)}.", *quoted(line[:LONGEST_QUOTE]), *([advice] if advice else [])]
 
 
-def run(machine: Machine, ticks: int) -> Report:
-    """Runs a machine alone, and reads its report. Beyond what `run` allows it is `long`."""
+def run_text(machine: Machine, ticks: int) -> str:
+    """Runs a machine alone: its report, which is kept. Beyond what `run` allows it is `long`."""
     command = "run" if ticks <= MOST_RUN_TICKS else "long"
     status, said = aegis(command, *machine.files(), str(ticks), cwd=machine.room)
     if status == REFUSED and machine.schedule:
         raise Failed(REFUSED, *bad_schedule(machine.schedule, content(f"{machine.room}/try.sch"), *refusal(said)))
     if status:
         raise Failed(status, f"`{command}` ended with {status}: {said.decode(errors='replace').strip()}")
-    return reported(machine, said.decode("latin-1"))
+    write(f"{machine.room}/try.report", said)
+    return said.decode("latin-1")
+
+
+def run(machine: Machine, ticks: int) -> Report:
+    """Runs a machine alone, and reads its report."""
+    return read(io.StringIO(run_text(machine, ticks), newline="\n"))
 
 
 def reported(machine: Machine, text: str) -> Report:

@@ -3,29 +3,31 @@
 from __future__ import annotations
 
 import re
-from bisect import bisect_right
-from typing import Callable, Dict, Iterable, Iterator, List, Optional, Tuple
+from itertools import islice
+from typing import Callable, Dict, Iterable, Iterator, List, Optional
 
-from instructions import is_store
+from claim_history import Claim
+from follower import Change, Step
 from kernel_layout import K1
-from knowledge import NAMES, Change, Claim, Knowledge, Unknown
+from moments import Memory
 from places import Places
-from recording import TRANSFERS, Note, Step
-from report import CAUSES, Environment, Head, Report
+from registers import NAMES
+from report import CAUSES, Environment, Head
 from shown import shown
 from source import without_comment
+from steps import ENTERED, Note, Steps
+from timeline import TRANSFERS, Timeline
 
 LARGEST_DECIMAL = 9_999
 # The exceptions by their codes (docs/MACHINE.md), and those with a bad address.
 EXCEPTIONS = {1: "Mod", 2: "TLBL", 3: "TLBS", 4: "AdEL", 5: "AdES", 8: "Sys", 9: "Bp", 10: "RI", 11: "CpU", 12: "Ov"}
 OF_ADDRESSES = range(1, 6)
+PARTS = (42, 46)  # opcodes of stores that put a part of a word
 MOST_OTHERS = 3  # slices of others that are told between two steps
 
 
-def number_shown(value: Optional[int]) -> str:
-    """A register's value: small ones in decimal, with a sign where it has one; `?` where it isn't known."""
-    if value is None:
-        return "?"
+def number_shown(value: int) -> str:
+    """A register's value: small ones in decimal, with a sign where it has one."""
     if value <= LARGEST_DECIMAL:
         return str(value)
     return str(value - (1 << 32)) if value >= (1 << 32) - LARGEST_DECIMAL else f"0x{value:08x}"
@@ -33,28 +35,19 @@ def number_shown(value: Optional[int]) -> str:
 
 def registers_changed(changes: Iterable[Change]) -> List[str]:
     """The registers that differ after some changes, by their names."""
-    last = {it.key: it.new for it in changes if isinstance(it.key, int)}
-    first = {it.key: it.old for it in reversed(list(changes)) if isinstance(it.key, int)}
-    return [f"{NAMES[key]} = {number_shown(value)}" for key, value in sorted(last.items()) if value != first[key]]
+    return [f"{NAMES[it.register]} = {number_shown(it.new)}" for it in sorted(changes)]
 
 
-def bytes_stored(step: Step, known: Knowledge, places: Places) -> List[str]:
-    """What a store put, as the word or the bytes at its address. `known` is what is known after the step."""
-    if step.row.word is None or not is_store(step.row.word):
+def bytes_stored(steps: Steps, place: int, places: Places) -> List[str]:
+    """What a step put into memory, as the word or the bytes at its address; of part of a word, all of that."""
+    step: Step = steps[place]
+    if step.stored is None:
         return []
-    put = [it for it in step.own if isinstance(it.key, tuple) and it.key[0] == "byte" and it.key[1] != ("vpn", 1)]
-    found = re.search(r",(-?\d+)\(\$(\d+)\)", step.row.text)
-    base = known.registers[int(found[2])] if found else None
-    if not put or found is None or base is None:
-        return []
-    address = base + int(found[1]) & 0xFFFFFFFF
-    width = {40: 1, 41: 2}.get(step.row.word >> 26, 4)
-    address -= address % 4 if width == 4 else 0
-    try:
-        value = int.from_bytes(bytes(known.byte(address + at) for at in range(width)), "little")
-    except Unknown:
-        return []
-    return [f"[{places.name(address) or f'0x{address:08x}'}] = {number_shown(value)}"]
+    address, data = step.stored
+    if step.row.word is not None and step.row.word >> 26 in PARTS:
+        address -= address % 4
+        data = steps.memory(place + 1).read(address, 4)
+    return [f"[{places.name(address) or f'0x{address:08x}'}] = {number_shown(int.from_bytes(data, 'little'))}"]
 
 
 def statement(step: Step, places: Places) -> str:
@@ -69,43 +62,35 @@ def statement(step: Step, places: Places) -> str:
     return f"{line.file}:{line.number}: {' '.join(text.split())}{more}"
 
 
-def step_line(step: Step, known: Knowledge, places: Places) -> str:
-    """A step: tick, address, label, source, what a call asked and was answered, and what changed. `known` is what is known after it."""
+def step_line(steps: Steps, place: int, places: Places) -> str:
+    """A step: tick, address, label, source, what a call asked and was answered, and what changed."""
+    step: Step = steps[place]
     row = step.row
     effects = [step.asked + (f" = {step.answered}" if step.answered else "")] if step.asked else []
-    effects += [exception_shown(step, known)] if step.cause is not None else []
-    effects += [", ".join(registers_changed(step.own))] + bytes_stored(step, known, places) + (["dead"] if row.is_dead else [])
+    effects += [exception_shown(step.cause, steps.registers(place + 1)[K1])] if step.cause else []
+    effects += [", ".join(registers_changed(step.own))] + bytes_stored(steps, place, places) + (["dead"] if row.is_dead else [])
     told = "; ".join(it for it in effects if it)
     head = f"{row.tick:>6} {row.pc:08x} {places.name(row.pc):<10} {statement(step, places)}"
     return f"{head} -> {told}" if told else head
 
 
-def exception_shown(step: Step, known: Knowledge) -> str:
+def exception_shown(cause: int, bad: int) -> str:
     """The exception that a step raised: its name, its code, and the bad address if it has one."""
-    bad = known.registers[K1]
-    where = f" at 0x{bad:08x}" if step.cause in OF_ADDRESSES and bad is not None else ""
-    name = "?" if step.cause is None else EXCEPTIONS.get(step.cause, "?")
-    return f"exception {name} ({step.cause}){where}, to handler"
+    where = f" at 0x{bad:08x}" if cause in OF_ADDRESSES else ""
+    return f"exception {EXCEPTIONS.get(cause, '?')} ({cause}){where}, to handler"
 
 
-class Meanwhile:
-    """Who ran while an environment didn't."""
-
-    def __init__(self, report: Report, env: int):
-        self.slices = [it for it in report.slices if it.env != env and it.start < it.end]
-        self.ends = [it.end for it in self.slices]
-
-    def line(self, before: Optional[int], tick: int) -> List[str]:
-        """Who ran between two steps, the first of which was in tick `before`. Before the first step there is no tick."""
-        first = 0 if before is None else before + 1
-        if first == tick:
-            return []
-        at = bisect_right(self.ends, first)
-        others = [it for it in self.slices[at: at + MOST_OTHERS + 1] if it.start < tick]
-        ran = [f"environment {it.env} ran {max(it.start, first)} to {min(it.end, tick) - 1}" for it in others[:MOST_OTHERS]]
-        more = [f"and others until {tick - 1}"] if len(others) > MOST_OTHERS else []
-        stopped = [] if before is None else [f"stopped in tick {before}"]
-        return [f"-- {'; '.join([*stopped, ', '.join(ran + more)])} --" if ran else f"-- {stopped[0] if stopped else 'nobody ran'} --"]
+def meanwhile(timeline: Timeline, env: int, before: Optional[int], tick: int) -> List[str]:
+    """Who ran between two steps of an environment, the first of which was in tick `before`. Before the first step there is no tick."""
+    first = 0 if before is None else before + 1
+    if first == tick:
+        return []
+    slices = (it for it in timeline.ending_after(first) if it.env != env and it.start < it.end)
+    others = [it for it in islice(slices, MOST_OTHERS + 1) if it.start < tick]
+    ran = [f"environment {it.env} ran {max(it.start, first)} to {min(it.end, tick) - 1}" for it in others[:MOST_OTHERS]]
+    more = [f"and others until {tick - 1}"] if len(others) > MOST_OTHERS else []
+    stopped = [] if before is None else [f"stopped in tick {before}"]
+    return [f"-- {'; '.join([*stopped, ', '.join(ran + more)])} --" if ran else f"-- {stopped[0] if stopped else 'nobody ran'} --"]
 
 
 def pages_asked_for(outstanding: int, deadline: int) -> str:
@@ -113,8 +98,6 @@ def pages_asked_for(outstanding: int, deadline: int) -> str:
 
 
 def packet_arrives(length: int, claim: Claim) -> str:
-    if claim.atoms is None:
-        return f"a packet of {length:,} bytes arrives, for claim {claim.number} if its filter matches"
     return f"a packet of {length:,} bytes arrives for claim {claim.number}{', whose handler runs' if claim.is_handled else ''}"
 
 
@@ -131,16 +114,14 @@ NOTES: Dict[str, Callable[..., str]] = {
     "end": lambda handler: f"end of its slice, upcall to {handler}",
     "enter": lambda caller, kind, handler: f"{GIFTS[TRANSFERS[kind]]} from environment {caller} to {handler}",
 }
-HANDLED = ("start", "end", "enter")  # those whose last word is a handler
 
 
 def note_lines(notes: Iterable[Note], places: Places) -> List[str]:
     """What happened to an environment between two steps, a line each."""
     found = []
     for kind, tick, words in notes:
-        if kind in HANDLED:
-            handler = words[-1]
-            words = (*words[:-1], "?" if handler is None else places.name(handler) or f"0x{handler:08x}")
+        if kind in ENTERED:
+            words = (*words[:-1], places.name(words[-1]) or f"0x{words[-1]:08x}")
         found.append(f"-- tick {tick}: {NOTES[kind](*words)} --")
     return found
 
@@ -152,10 +133,9 @@ def kernel_line(changes: Iterable[Change], tick: Optional[int] = None) -> List[s
     return [f"       set by the kernel{when}: {', '.join(told)}"] if told else []
 
 
-def register_table(known: Knowledge) -> Iterator[str]:
+def register_table(registers: List[int]) -> Iterator[str]:
     """All registers in hexadecimal and in decimal, three in a line."""
-    cells = [f"{name:<7} {'????????' if value is None else f'{value:08x}'} {'' if value is None else signed(value):>11}"
-             for name, value in zip(NAMES, known.registers)]
+    cells = [f"{name:<7} {value:08x} {signed(value):>11}" for name, value in zip(NAMES, registers)]
     for first in range(0, len(cells), 3):
         yield "  " + "  ".join(cells[first: first + 3])
 
@@ -165,29 +145,18 @@ def signed(value: int) -> int:
     return value - (1 << 32) if value >= 1 << 31 else value
 
 
-def memory_lines(known: Knowledge, address: int, words: int, places: Places) -> Iterator[str]:
-    """Words of memory, four in a line, with their bytes as characters; what isn't known as `?`, and why."""
+def memory_lines(memory: Memory, address: int, words: int, places: Places) -> Iterator[str]:
+    """Words of memory, four in a line, with their bytes as characters; once where no page is."""
     address -= address % 4
-    why: List[Tuple[int, str]] = []
+    is_gone = False
     for first in range(address, address + 4 * words, 16):
-        data: List[Optional[int]] = []
-        for at in range(first, min(first + 16, address + 4 * words)):
-            try:
-                data.append(known.byte(at & 0xFFFFFFFF))
-            except Unknown as unknown:
-                data.append(None)
-                if not why or why[-1][1] != str(unknown):
-                    why.append((at, str(unknown)))
-        digits = " ".join(word_shown(data[at: at + 4]) for at in range(0, len(data), 4))
-        letters = "".join("?" if it is None else chr(it) if 32 <= it < 127 else "." for it in data)
-        yield f"  {first & 0xFFFFFFFF:08x} {places.name(first):<10} {digits:<35}  {letters}"
-    for at, reason in why:
-        yield f"  {at & 0xFFFFFFFF:08x} isn't known: {reason}"
-
-
-def word_shown(data: List[Optional[int]]) -> str:
-    """A word by its bytes, the highest first."""
-    return "".join("??" if it is None else f"{it:02x}" for it in reversed(data))
+        at = first & 0xFFFFFFFF
+        data = memory.read(at, min(16, address + 4 * words - first))
+        digits = " ".join(f"{int.from_bytes(data[it: it + 4], 'little'):08x}" for it in range(0, len(data), 4))
+        letters = "".join(chr(it) if 32 <= it < 127 else "." for it in data)
+        if data or not is_gone:
+            yield f"  {at:08x} {places.name(at):<10} {f'{digits:<35}  {letters}' if data else 'no page is here'}"
+        is_gone = not data
 
 
 def console_at(env: Environment, length: int) -> str:
@@ -195,12 +164,12 @@ def console_at(env: Environment, length: int) -> str:
     return shown(env.text()[:length].decode("utf-8", errors="backslashreplace"))
 
 
-def ending(env: Environment, head: Head, steps: List[Step]) -> str:
-    """How the environment ended."""
+def ending(env: Environment, head: Head, last: Optional[int]) -> str:
+    """How the environment ended, whose last step was in this tick, if there was one."""
     who = f"-- {env.number} {env.name}:"
-    if not steps:
+    if last is None:
         return f"{who} no step in {head.time:,} ticks"
     if env.life == "live":
         return f"{who} {'alive at the limit' if head.ending == 'limit' else 'alive, without a slot'}, after {head.time:,} ticks"
     how = f"exit {env.why}" if env.life == "exit" else f"dead {env.why}"
-    return f"{who} {how} in tick {steps[-1].row.tick:,}" + (f": {CAUSES[env.why]}" if env.life == "dead" else "")
+    return f"{who} {how} in tick {last:,}" + (f": {CAUSES[env.why]}" if env.life == "dead" else "")

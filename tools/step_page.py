@@ -1,4 +1,4 @@
-"""A recording as one page of HTML, which needs no network: source, registers, memory, calls and console at each step, with a slider and
+"""Steps of a run as one page of HTML, which needs no network: source, registers, memory, calls and console at each step, with a slider and
 keys. Script, style and markup are those of web/, which the page for browsers has too (docs/WEB.md)."""
 
 from __future__ import annotations
@@ -9,54 +9,39 @@ import json
 import re
 from typing import Any, Dict, List, Optional, Tuple
 
-from knowledge import IS_LOST, IS_VAGUE, NAMES, Change, PageKey
+from follower import Change, Step
 from places import Places
 from programs import ROOT, Program
-from recording import Recording, Step
+from registers import NAMES
 from shown import shown
 from source import read_statement
 from step_lines import console_at, ending, note_lines, step_line
 from stepper import Stepper
+from steps import Steps
 
 WEB = f"{ROOT}/web"  # with the script, style and markup
+PAGE_TICKS = 32_768  # of which a page has the steps, at most
 
 
-def registers_of(changes: List[Change]) -> List[Any]:
+def registers_of(changes: List[Change]) -> List[int]:
     """Register and value by turns, of those that change."""
-    return [part for key, value in {it.key: it.new for it in changes if isinstance(it.key, int)}.items() for part in (key, value)]
+    return [part for it in changes for part in (it.register, it.new)]
 
 
-def memory_of(changes: List[Change]) -> List[List[Any]]:
-    """What changes of memory: a page with a place and the bytes there as digits, a binding (none where it ends), and what others may
-    store to or isn't known from here on."""
-    found: List[List[Any]] = []
-    for key, _, new in changes:
-        if isinstance(key, tuple) and key[0] == "byte":
-            page, place, digits = page_name(key[1]), key[2], "??" if new is None else f"{new:02x}"
-            if found and found[-1][0] == page and found[-1][1] + len(found[-1][2]) // 2 == place:
-                found[-1][2] += digits
-            else:
-                found.append([page, place, digits])
-        elif isinstance(key, tuple) and key[0] == "row":
-            found.append(["row", key[1], *([new.vpn, page_name(new.page)] if new else [])])
-        elif isinstance(key, tuple) and key[0] == "shared":
-            found.append(["shared", page_name(key[1])])
-        elif key in (IS_VAGUE, IS_LOST):
-            found.append([key])
-    return found
-
-
-def page_name(page: Optional[PageKey]) -> Optional[str]:
-    """A guaranteed page by its VPN, one that was allocated by its number and the tick; none for another's."""
-    return None if page is None else f"v{page[1]}" if page[0] == "vpn" else f"p{page[1]}@{page[2]}"
+def first_tick(steps: Steps, first: Optional[int], middle: Optional[int]) -> int:
+    """The first tick of a page: this one, or so that another is in its middle."""
+    if first is not None or middle is None:
+        return first or 0
+    return max(min(middle - PAGE_TICKS // 2, steps.end - PAGE_TICKS), 0)
 
 
 class Data:
     """What the page's script is given."""
 
-    def __init__(self, recording: Recording, places: Places, program: Program, title: str):
-        self.recording, self.places, self.title = recording, places, title
-        self.stepper = Stepper(recording, places)
+    def __init__(self, steps: Steps, places: Places, program: Program, title: str, tick: int = 0):
+        self.steps, self.places, self.title = steps, places, title
+        self.first = steps.turns.made(tick - 1) if tick else 0  # how many steps are before the page's
+        self.last = steps.turns.made(tick + PAGE_TICKS - 1)
         self.files: Dict[str, int] = {}
         self.spots: Dict[Tuple[int, str], int] = {}
         self.rows: List[List[Any]] = []
@@ -88,49 +73,66 @@ class Data:
     def console(self, length: int) -> int:
         """The characters of so many bytes of the console."""
         if length not in self.lengths:
-            self.lengths[length] = len(console_at(self.stepper.environment, length))
+            self.lengths[length] = len(console_at(self.steps.environment, length))
         return self.lengths[length]
 
-    def step(self, place: int, step: Step) -> List[Any]:
+    def memory(self, place: int) -> List[List[Any]]:
+        """What is another in memory after a step than before it: a VPN with a place and the bytes there as digits, or alone where its page is
+        gone. A new page is zeros first."""
+        return [[vpn] if data is None else [vpn, at, data.hex()] for vpn, at, data in self.steps.memory_changes(place)]
+
+    def step(self, place: int) -> List[Any]:
         """A step: tick, instruction, registers that it changed, those that the kernel set, characters of the console, what it tells, whether
         it is a call or the end, whether that is bad, and what changed of memory, where something did."""
-        self.stepper.go(place)
-        stores = any(isinstance(it.key, tuple) and it.key[0] == "byte" for it in step.own)
-        told = step_line(step, self.stepper.known, self.places).partition(" -> ")[2] if step.row.is_dead or stores else ""
-        memory = memory_of(step.kernel + step.own)
+        step: Step = self.steps[place]
+        is_told = step.row.is_dead or step.stored or step.cause or step.is_end
+        memory = self.memory(place)
+        told = step_line(self.steps, place, self.places).partition(" -> ")[2] if is_told else ""
         if step.answered:
             told = f"{step.asked} = {step.answered}"
-        return [step.row.tick, self.spot(step), registers_of(step.own), registers_of(step.kernel), self.console(step.console), shown(told),
-                int(bool(step.asked or step.row.is_dead)), int(bool(step.code)), *([memory] if memory else [])]
+        return [step.row.tick, self.spot(step), registers_of(step.own), registers_of(step.kernel), self.console(self.steps.console(place + 1)),
+                shown(told), int(bool(step.asked or step.row.is_dead)), int(bool(step.code)), *([memory] if memory else [])]
 
     def marks(self) -> Dict[str, List[int]]:
         """The steps with which slices begin, before which packets arrive, and that raise exceptions which a handler takes."""
-        steps = list(enumerate(self.recording.steps, 1))
-        return {"slice": sorted(self.stepper.slice_places()), "packet": [at for at, it in steps if any(note.kind == "packet" for note in it.notes)],
-                "miss": [at for at, it in steps if it.cause is not None]}
+        places = range(self.first, self.last)
+        return {"slice": [at - self.first + 1 for at in places if self.steps.turns.begins(at)],
+                "packet": [at - self.first + 1 for at in places if any(note.kind == "packet" for note in self.steps.notes(at))],
+                "miss": [at - self.first + 1 for at in places if self.steps[at].cause]}
+
+    def between(self) -> List[List[Any]]:
+        """What happened before each step, and after the last one of the run."""
+        stepper, found = Stepper(self.steps, self.places), []
+        for stepper.done in range(self.first + 1, self.last + 1):
+            found.append([stepper.done - self.first, stepper.between()])
+        if self.last == len(self.steps):
+            found.append([self.last - self.first + 1, note_lines(self.steps.notes(self.last), self.places)])
+        return [it for it in found if it[1]]
+
+    def ending(self) -> str:
+        """How the environment ended, or that the page does."""
+        if self.last < len(self.steps):
+            return f"of these steps: a page has at most {PAGE_TICKS:,} ticks of the run"
+        last = self.steps.turns.tick(self.last - 1) if self.last else None
+        return ending(self.steps.environment, self.steps.run.timeline.head, last)[3:]
 
     def all(self) -> Dict[str, Any]:
-        steps, between = [], {}
-        for place, step in enumerate(self.recording.steps, 1):
-            steps.append(self.step(place, step))
-            between[place] = self.stepper.between()
-        between[len(steps) + 1] = note_lines(self.recording.notes, self.places)
+        pages = {vpn: bytes(page).rstrip(b"\0").hex() for vpn, page in sorted(self.steps.memory(self.first).pages.items())}
+        steps = [self.step(place) for place in range(self.first, self.last)]
         sources = {name: [shown(line) for line in self.places.sources.get(name, [])] for name in self.files}
         if self.listing:
             sources = {"instructions": self.listing}
-        environment, head, boot = self.stepper.environment, self.recording.report.head, self.recording.boot()
-        pages = {f"v{vpn}": page.rstrip(b"\0").hex() for vpn, page in sorted(boot.boot.pages.items())}
-        return {"title": self.title, "labels": self.places.labels, "memory": {"rows": boot.rows, "pages": pages}, "names": NAMES,
-                "first": boot.registers, "spots": self.rows, "steps": steps, "marks": self.marks(),
-                "between": [[place, lines] for place, lines in between.items() if lines],
+        environment = self.steps.environment
+        return {"title": self.title, "labels": self.places.labels, "memory": pages, "names": NAMES, "first": self.steps.registers(self.first),
+                "spots": self.rows, "steps": steps, "marks": self.marks(), "between": self.between(),
                 "files": [[name, lines] for name, lines in sources.items()], "console": console_at(environment, environment.console_bytes),
-                "end": ending(environment, head, self.recording.steps)[3:]}
+                "end": self.ending()}
 
 
-def page(recording: Recording, places: Places, program: Program, title: str) -> str:
-    """The page."""
+def page(steps: Steps, places: Places, program: Program, title: str, tick: int) -> str:
+    """The page of the steps from a tick on."""
     shown_title = f"{title}, step by step"
-    data = json.dumps(Data(recording, places, program, shown_title).all(), separators=(",", ":")).replace("</", "<\\/")
+    data = json.dumps(Data(steps, places, program, shown_title, tick).all(), separators=(",", ":")).replace("</", "<\\/")
     parts = {"STYLE": part("step.css"), "BODY": part("step.html"), "SCRIPT": script(),
              "TITLE": html.escape(shown_title), "DATA": data}
     return functools.reduce(lambda text, it: text.replace(f"@{it[0]}@", it[1]), parts.items(), PAGE)

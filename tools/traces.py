@@ -9,10 +9,10 @@ from core_file import Core, read_core
 from limits import MOST_TRACED_TICKS
 from programs import USAGE, Failed, Machine, aegis, content
 from report import Report
+from timeline import TRANSFERS
 
 MOST_WINDOWS = 16  # of an environment that are looked at
 MOST_LOOKED_TICKS = MOST_WINDOWS * MOST_TRACED_TICKS
-TRANSFERS = ("async", "sync")  # rows by which an environment is entered with another one's registers
 
 
 class Window(NamedTuple):

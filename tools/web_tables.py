@@ -13,10 +13,11 @@ import manifests
 import refusals
 import refused_calls
 import source
-from knowledge import NAMES
 from programs import tool
+from registers import NAMES
 from report import CAUSES
 from step_lines import EXCEPTIONS
+from step_page import PAGE_TICKS
 
 LINT, TRY = tool("lint"), tool("try")
 
@@ -24,10 +25,10 @@ LINT, TRY = tool("lint"), tool("try")
 def of_limits() -> Dict[str, Any]:
     """The numbers that the page says or keeps to."""
     return {
-        "pageSize": limits.PAGE_SIZE, "ticks": limits.MOST_RUN_TICKS, "traced": limits.MOST_TRACED_TICKS, "environments": limits.MOST_ENVIRONMENTS,
-        "leastQuantum": limits.LEAST_QUANTUM, "mostQuantum": limits.MOST_QUANTUM, "stackPages": limits.MOST_STACK_PAGES,
-        "leastPages": limits.LEAST_PAGES, "mostPages": refusals.MOST_PAGES, "mappings": limits.MOST_MAPPINGS, "packet": limits.MOST_PACKET_SIZE,
-        "line": limits.MOST_LINE, "target": limits.MOST_TARGET, "asked": limits.MOST_ASKED,
+        "pageSize": limits.PAGE_SIZE, "ticks": limits.MOST_RUN_TICKS, "traced": limits.MOST_TRACED_TICKS, "page": PAGE_TICKS,
+        "environments": limits.MOST_ENVIRONMENTS, "leastQuantum": limits.LEAST_QUANTUM, "mostQuantum": limits.MOST_QUANTUM,
+        "stackPages": limits.MOST_STACK_PAGES, "leastPages": limits.LEAST_PAGES, "mostPages": refusals.MOST_PAGES, "mappings": limits.MOST_MAPPINGS,
+        "packet": limits.MOST_PACKET_SIZE, "line": limits.MOST_LINE, "target": limits.MOST_TARGET, "asked": limits.MOST_ASKED,
         "versions": {number: {"pages": most.most_pages, "environments": most.most_environments} for number, most in limits.VERSIONS.items()},
         "console": limits.CONSOLE_SIZE, "allButFull": refused_calls.ALL_BUT_FULL,
         "rows": {number: most.stripe_rows for number, most in limits.VERSIONS.items()},

@@ -1,267 +1,175 @@
-// Follows environments through a run, by their traces, the report's rows and the schedule's events, in the order of what happens.
+// Follows an environment through some ticks of a run, from the state at their begin on, by the lines of its trace, the report's rows, and
+// those who enter it by transfers (tools/follower.py).
 
 import * as calls from "./calls.js";
 import { access, cause, COPROCESSORS, isCall, isJump, isStore, opcodeOf, stored, target } from "./instructions.js";
-import { ATOM_SIZE, matches } from "./filters.js";
-import { allocated, AREAS, AT, ASYNCHRONOUS, cell, CONTEXT, ENDS, EXCEPTIONS, K0, K1, Knowledge, MOST_RECORDS, NO_BACKUP, POST, REGISTERS,
-  STARTS } from "./knowledge.js";
+import { readTrace } from "./recording.js";
 import { TRANSFERS } from "./refused.js";
+import { AT, ASYNCHRONOUS, ENDS, EXCEPTIONS, K0, K1, registersOf, STARTS } from "./registers.js";
 import { tables } from "./tables.js";
 
-const BEFORE = 0, TURN = 1, STEP = 2, GIVEN = 3, END = 4; // what happens, in the order within a tick
-const numberOf = word => word === "-" ? null : Number(word);
+const TURN = 0, STEP = 1, GIVEN = 2, END = 3; // what happens, in the order within a tick
 
-/** All that concerns the environments with these traces, in order. */
-function happenings(report, traces, events) {
-  const found = [];
-  const add = (tick, phase, env, what, ...words) => {
-    if (traces.has(env)) found.push({ tick, phase, order: found.length, env, what, words });
-  };
-  for (const [tick, kind, which] of events) {
-    if (tick < report.time) for (const env of traces.keys()) add(tick, BEFORE, env, kind, which);
-  }
-  for (const { kind, time, env, words } of report.marks) {
-    if (kind === "asked" || kind === "take") add(time, BEFORE, env, kind, ...words.slice(3).map(numberOf));
-    else if (kind === "give" || TRANSFERS.includes(kind)) {
-      const giver = Number(words[3]), target = Number(words[4]);
-      add(time, GIVEN, giver, "gives", kind, target);
-      add(time, GIVEN, target, ...(kind === "give" ? ["given", giver] : ["enter", giver, TRANSFERS.indexOf(kind)]));
-    } else if (kind === "end") add(time, END, env, "end");
-  }
-  for (const piece of report.slices) if (piece.begun.startsWith("run ")) add(piece.start, TURN, piece.env, "start");
-  for (const [env, rows] of traces) rows.forEach((row, place) => add(row.tick, STEP, env, "step", row, rows[place + 1] ?? null));
-  return found.sort((one, two) => one.tick - two.tick || one.phase - two.phase || one.order - two.order);
+/** The registers that differ. */
+function differences(old, registers) {
+  return registers.map((value, register) => ({ register, old: old[register], value })).filter(it => it.old !== it.value);
 }
 
-/** Follows the environments of some traces through a run. */
+/** The handlers after a step. `before` are its registers before it. */
+export function handlersAfter(step, before) {
+  if (step.number !== calls.CONTEXT || step.code !== 0) return step.handlers;
+  return step.handlers.map((it, kind) => kind === before[4] ? before[5] : it);
+}
+
+/** The environment and those that call it by transfers, or call these. */
+function callers(marks, number) {
+  const found = [number], rows = marks.filter(it => TRANSFERS.includes(it.kind)).map(it => it.words.map(Number));
+  for (const env of found) {
+    for (const words of rows) if (words[4] === env && !found.includes(words[3])) found.push(words[3]);
+  }
+  return found;
+}
+
+/** The registers of an environment, where it goes on, and its handlers. */
+class Cpu {
+  constructor(env, core) {
+    Object.assign(this, { env, registers: registersOf(core), pc: core.pc, next: core.next, isInSlot: core.isInSlot, handlers: core.handlers,
+      after: null, handed: [] });
+  }
+
+  /** Where it goes on at its next start: at the branch, if its delay slot was due. */
+  restart() {
+    return this.isInSlot ? this.pc - 4 : this.pc;
+  }
+
+  continueAt(address) {
+    Object.assign(this, { pc: address, next: address + 4 >>> 0, isInSlot: false });
+  }
+
+  /** The kernel enters a handler, with other registers. */
+  enter(kind, changes) {
+    this.after ??= [...this.registers];
+    for (const [register, value] of changes) this.registers[register] = value;
+    this.continueAt(this.handlers[kind]);
+  }
+}
+
+/** Follows environments through the ticks from `first` to `last` - 1. */
 export class Follower {
-  constructor(image, report, traces, events) {
-    Object.assign(this, { image, report, traces, handed: new Map(), stepped: "", isRaised: false, epc: 0 });
-    this.known = new Map([...traces.keys()].map(env => [env, this.boot(env)]));
-    this.steps = new Map([...traces.keys()].map(env => [env, []]));
-    this.notes = new Map([...traces.keys()].map(env => [env, []])); // since its last step
-    this.ends = new Set(report.marks.filter(it => it.kind === "end").map(it => `${it.env} ${it.time}`));
-    this.turns = new Set(report.slices.map(it => `${it.env} ${it.start}`));
-    this.order = happenings(report, traces, events);
+  constructor({ moments, report, image }, number, first, last) {
+    Object.assign(this, { moments, image, number, first, last, steps: [], put: 0, stepped: "" });
+    const isWithin = it => it.time >= first && it.time < last;
+    this.marks = report.marks.filter(isWithin);
+    this.slices = report.slices.filter(it => it.start >= first && it.start <= last);
+    this.cpus = new Map(callers(this.marks, number).map(env => [env, new Cpu(env, moments.core(env, first))]));
+    this.ends = new Set(this.marks.filter(it => it.kind === "end").map(it => `${it.env} ${it.time}`));
+    this.turns = new Set(this.slices.map(it => `${it.env} ${it.start}`));
+    this.whys = report.environments.map(it => it.why);
   }
 
-  boot(env) {
-    const { environments, version } = this.image;
-    return new Knowledge(env, environments[env], version, environments.length === 1);
+  /** The steps of the environment. The step before the first one left these registers. */
+  followed(after) {
+    this.cpus.get(this.number).after = after;
+    const found = [];
+    const add = (tick, phase, act) => found.push({ tick, phase, order: found.length, act });
+    this.addMarks(add);
+    for (const it of this.slices) {
+      if (it.begun.startsWith("run ") && this.cpus.has(it.env) && it.start < this.last) add(it.start, TURN, () => this.start(this.cpus.get(it.env)));
+    }
+    for (const [env, cpu] of this.cpus) {
+      const rows = readTrace(this.moments.trace(env, this.first, this.last));
+      rows.forEach((row, at) => add(row.tick, STEP, () => this.step(cpu, row, rows[at + 1] ?? null)));
+    }
+    found.sort((one, two) => one.tick - two.tick || one.phase - two.phase || one.order - two.order);
+    for (const it of found) it.act();
+    return this.steps;
   }
 
-  /** Follows all, and answers the recording of one: its steps, and what the kernel did after the last one. */
-  recording(number) {
-    for (const it of this.order) WHAT[it.what].call(this, this.known.get(it.env), it.tick, ...it.words);
-    return { number, steps: this.steps.get(number), tail: this.known.get(number).taken(), report: this.report, notes: this.notes.get(number),
-      boot: () => this.boot(number) };
+  addMarks(add) {
+    for (const { kind, time, env, words } of this.marks) {
+      const isTransfer = TRANSFERS.includes(kind), to = kind === "give" || isTransfer ? this.cpus.get(Number(words[4])) : null;
+      if (to && !isTransfer) add(time, GIVEN, () => this.start(to));
+      else if (to) add(time, GIVEN, () => to.enter(ASYNCHRONOUS + TRANSFERS.indexOf(kind), this.cpus.get(Number(words[3])).handed.entries()));
+      else if (kind === "end" && this.cpus.has(env)) add(time, END, () => this.end(this.cpus.get(env), time));
+    }
   }
 
   // What the kernel does between steps
 
-  note(known, kind, tick, ...words) {
-    this.notes.get(known.number).push({ kind, tick, words });
-  }
-
-  packet(known, tick, data) {
-    if (known.get(cell.claim)) known.putContext(POST.packets, null, null);
-    const claim = known.get(cell.claims).find(it => it.atoms === null || matches(it.atoms, data));
-    if (claim) this.note(known, "packet", tick, data.length, claim);
-  }
-
-  line(known, tick, number) {
-    if (!(known.get(cell.lines) >>> number & 1)) return;
-    this.note(known, "line", tick, number);
-    const word = known.word(tables.limits.pageSize + POST.lines);
-    known.putContext(POST.lines, word === null ? null : (word | 1 << number) >>> 0);
-  }
-
-  take(known, tick, page, backup) {
-    this.note(known, "take", tick, page);
-    const place = known.word(tables.limits.pageSize + POST.takings);
-    if (place === null) known.putBytes(CONTEXT, POST.records, Array(8 * MOST_RECORDS).fill(null));
-    else if (place < MOST_RECORDS) known.putContext(POST.records + 8 * place, page, backup ?? NO_BACKUP);
-    known.putContext(POST.takings, place === null ? null : place + 1 >>> 0);
-    if (backup !== null) known.share(backup);
-    known.losePage(page);
-  }
-
-  gives(known, tick, kind, target) {
-    this.note(known, "gives", tick, kind, target);
-  }
-
-  /** Another gives it the rest of a slice. */
-  given(known, tick, giver) {
-    this.note(known, "given", tick, giver);
-    this.start(known, tick + 1);
-  }
-
   /** A slice starts. */
-  start(known, tick) {
-    const handler = known.get(cell.handler(STARTS)), resume = known.restart();
-    if (handler === 0) return known.continueAt(resume);
-    this.note(known, "start", tick, handler);
-    known.putContext(AREAS.start, ...(handler !== null ? [known.registers[K0], resume] : [null, null]));
-    known.put(K0, handler !== null ? resume : null);
-    known.continueAt(handler);
+  start(cpu) {
+    const resume = cpu.restart();
+    if (cpu.handlers[STARTS]) cpu.enter(STARTS, [[K0, resume]]);
+    else cpu.continueAt(resume);
   }
 
-  /** A transfer enters it, with the caller's registers. */
-  enter(known, tick, caller, kind) {
-    this.note(known, "enter", tick, caller, kind, known.get(cell.handler(ASYNCHRONOUS + kind)));
-    known.putContext(AREAS.entry, ...known.registers.slice(1), known.restart(), caller, kind);
-    (this.handed.get(caller) ?? Array(REGISTERS).fill(null)).forEach((value, register) => known.put(register, value));
-    known.continueAt(known.get(cell.handler(ASYNCHRONOUS + kind)));
-  }
-
-  /** It is told of the end of its slice, in the tick in which another gave it that: of its own step `step` knows it. */
-  end(known, tick) {
-    if (this.stepped === `${known.number} ${tick}`) return;
-    this.note(known, "end", tick, known.get(cell.handler(ENDS)));
-    const resume = known.restart();
-    this.tellEnd(known, resume, known.registers[K0]);
-    known.put(K0, resume);
-  }
-
-  tellEnd(known, resume, old) {
-    known.putContext(AREAS.end, old, resume, known.get(cell.slot) ? 2 ** 31 : 0);
-    known.continueAt(known.get(cell.handler(ENDS)));
+  /** It is told of the end of its slice, in the tick in which another gave it that: its own step has told it already. */
+  end(cpu, tick) {
+    if (this.stepped !== `${cpu.env} ${tick}`) cpu.enter(ENDS, [[K0, cpu.restart()]]);
   }
 
   // Its steps
 
-  step(known, tick, row, following) {
-    const place = `${known.number} ${tick}`, ends = this.ends.has(place);
-    this.stepped = place;
-    this.isRaised = false;
-    if (known.get(cell.pc) !== row.pc) known.continueAt(row.pc);
-    const step = { row, isInSlot: known.get(cell.slot), kernel: known.taken(), own: [], asked: "", answered: "", number: null, code: null, console: 0,
-      cause: null, notes: this.notes.get(known.number) };
-    this.notes.set(known.number, []);
-    const before = [...known.registers];
-    this.steps.get(known.number).push(step);
-    if (row.isDead) {
-      this.noteCall(known, step, before);
-    } else if (row.word !== null && isCall(row.word) && !step.isInSlot) {
-      this.tell(known, row);
-      this.noteCall(known, step, before);
-      known.continueAt(row.pc + 4);
-    } else {
-      this.machineStep(known, row, following, ends);
-      if (this.isRaised && known.registers[AT] !== null) step.cause = known.registers[AT] >>> 2 & 31;
-    }
-    if (ends && !row.isDead) {
-      this.note(known, "end", tick, known.get(cell.handler(ENDS)));
-      const goesToK0 = /^\S+ \$26\b/.test(row.text) && !isStore(row.word ?? 0);
-      this.tellEnd(known, known.registers[K0], goesToK0 ? null : this.isRaised ? this.epc : before[K0]);
-    }
-    step.console = known.get(cell.console);
-    step.own = known.taken();
+  step(cpu, row, following) {
+    if (cpu.pc !== row.pc) throw new Error(`tick ${row.tick}: the step isn't where the state before it goes on`);
+    const before = [...cpu.registers], kernel = cpu.after ? differences(cpu.after, before) : [];
+    const own = [...row.told].map(([register, value]) => ({ register, old: before[register], value }));
+    const step = { row, before, handlers: cpu.handlers, kernel, own, put: 0, asked: "", answered: "", number: null, code: null, cause: 0, stored: null, isEnd: false };
+    cpu.after = null;
+    for (const [register, value] of row.told) cpu.registers[register] = value;
+    this.stepped = `${cpu.env} ${row.tick}`;
+    step.isEnd = this.ends.has(this.stepped) && !row.isDead;
+    if (row.word !== null && isCall(row.word) && !cpu.isInSlot) this.call(cpu, step);
+    else if (!row.isDead) this.machineStep(cpu, step, following);
+    else if (row.word !== null && isStore(row.word) && this.whys[cpu.env] === "excess") step.stored = stored(row.word, access(row.word, before), before);
+    if (step.isEnd) cpu.continueAt(cpu.handlers[ENDS]);
+    if (cpu.env !== this.number) return;
+    if (step.number === calls.PUT && step.code === 0) this.put += Number(step.answered);
+    step.put = this.put;
+    this.steps.push(step);
   }
 
-  tell(known, row) {
-    for (const [register, value] of row.told) known.put(register, value);
+  /** A kernel call. */
+  call(cpu, step) {
+    step.number = step.before[calls.CODE];
+    step.asked = calls.asked(step.before);
+    cpu.handed = step.before;
+    if (!step.row.isDead) {
+      step.code = cpu.registers[calls.CODE];
+      step.answered = calls.answered(cpu.registers);
+      cpu.handlers = handlersAfter(step, step.before);
+    }
+    cpu.continueAt(step.row.pc + 4);
   }
 
   /** A step that isn't a kernel call: it retires, or its exception goes to the handler. */
-  machineStep(known, row, following, ends) {
-    const before = [...known.registers], isInSlot = known.get(cell.slot), { word } = row;
-    const address = word !== null ? access(word, before) : null, after = known.get(cell.next), handler = known.get(cell.handler(EXCEPTIONS));
-    let code = this.code(known, row, address), goal = after !== null ? after + 4 >>> 0 : null;
-    if (word !== null && isJump(word)) goal = target(word, row.pc, before);
-    if (code === null && after !== null && after !== handler) {
-      const goesOn = following !== null && following.tick === row.tick + 1 && !this.turns.has(`${known.number} ${following.tick}`);
-      const went = ends ? row.told.get(K0) ?? before[K0] : goesOn ? following.pc : null;
-      code = went === after ? 0 : went === handler ? -1 : null;
-    }
-    this.epc = isInSlot ? row.pc - 4 : row.pc;
-    this.isRaised = Boolean(code);
-    this.tell(known, row);
-    if (code === 0) {
-      if (word !== null && isStore(word) && address !== null) this.store(known, word, address, before);
-      known.continueAt(after, goal, word !== null && isJump(word));
-    } else if (code === null) {
-      known.putContext(AREAS.exception, ...Array(6).fill(null));
-      if (word !== null && isStore(word)) this.store(known, word, address, Array(REGISTERS).fill(null));
-      known.continueAt(null);
-    } else {
-      known.putContext(AREAS.exception, before[AT], before[K0], before[K1], this.epc, known.registers[K1], known.registers[AT]);
-      known.continueAt(handler);
-    }
+  machineStep(cpu, step, following) {
+    const { row: { word, pc }, before } = step;
+    step.cause = this.code(cpu, step, following);
+    if (step.cause || word === null) return cpu.continueAt(cpu.handlers[EXCEPTIONS]);
+    if (isStore(word)) step.stored = stored(word, access(word, before), before);
+    const jumps = isJump(word);
+    Object.assign(cpu, { pc: cpu.next, next: jumps ? target(word, pc, cpu.next, before) : cpu.next + 4 >>> 0, isInSlot: jumps });
   }
 
-  /** The exception's code, 0 for none, null where that isn't known. */
-  code(known, row, address) {
+  /** The code of the exception that a step raises, 0 where it retires. */
+  code(cpu, step, following) {
+    const { row, before } = step, { pages, writable } = this.image.environments[cpu.env];
     if (row.text.startsWith(".word")) return COPROCESSORS.includes(opcodeOf(row.word)) ? 11 : 10;
-    return cause(row.word, row.pc, known.registers, address !== null ? known.mapped(address) : null);
+    const address = row.word !== null ? access(row.word, before) : null, vpn = address === null ? null : Math.floor(address / tables.limits.pageSize);
+    const code = cause(row.word, row.pc, before, pages.has(vpn) ? { isThere: true, isWritable: writable.get(vpn) } : null);
+    return code === null ? this.codeByRegisters(cpu, step, address, following) : code;
   }
 
-  /** What a store puts into a page that is known. */
-  store(known, word, address, registers) {
-    if (address === null) return known.put(cell.isLost, true);
-    const { pageSize } = tables.limits, bound = known.pageAt(Math.floor(address / pageSize));
-    if (!bound?.page) return;
-    const it = stored(word, address, registers);
-    known.putBytes(bound.page, it.address % pageSize, it.data);
-  }
-
-  // Kernel calls
-
-  /** What a call asks, is answered, and makes of the environment's pages, bindings and handlers. */
-  noteCall(known, step, before) {
-    const { row } = step;
-    if (row.word === null || !isCall(row.word) || step.isInSlot) return;
-    step.number = before[calls.CODE];
-    step.asked = calls.asked(before);
-    this.handed.set(known.number, before);
-    if (row.isDead) return;
-    step.code = known.registers[calls.CODE];
-    step.answered = calls.answered(known.registers);
-    if (step.number === null && step.code === 0) this.loseAll(known);
-    else if (step.code === 0) this.granted(known, step, before.slice(calls.FIRST_ARGUMENT), known.registers[calls.VALUE]);
-  }
-
-  /** A call of which nothing is known was granted. */
-  loseAll(known) {
-    known.put(cell.isVague, true);
-    for (let kind = 0; kind < 5; kind++) known.put(cell.handler(kind), null);
-  }
-
-  granted(known, step, [first, second, third, low, high], value) {
-    const isShared = !known.isAlone && !(low === 0 && high === 0), row = cell.row(first % known.rows);
-    const ways = {
-      [calls.PUT]: () => known.put(cell.console, known.get(cell.console) + (value ?? 0)),
-      [calls.CONTEXT]: () => known.put(cell.handler(first), second),
-      [calls.ALLOC]: () => {
-        known.put(cell.own(value), allocated(value, step.row.tick));
-        if (isShared) known.share(value);
-      },
-      [calls.FREE]: () => known.losePage(first),
-      [calls.RECAP]: () => isShared && known.share(first),
-      [calls.BIND]: () => first !== null && known.put(row, { vpn: first, page: known.get(cell.own(second)) ?? null, isWritable: Boolean(third) }),
-      [calls.UNBIND]: () => value && first !== null && known.put(row, null),
-      [calls.CLAIM]: () => this.claim(known, third, known.read(first, second === null ? null : second * ATOM_SIZE), value),
-      [calls.UNCLAIM]: () => known.put(cell.claims, known.get(cell.claims).filter(it => it.number !== first)),
-      [calls.HANDLER]: () => known.put(cell.claims, known.get(cell.claims).map(it => it.number === first ? { ...it, isHandled: true } : it)),
-      [calls.LINE]: () => first !== null && known.put(cell.lines, second ? known.get(cell.lines) | 1 << first : known.get(cell.lines) & ~(1 << first)),
-    };
-    ways[step.number]?.();
-  }
-
-  /** A claim was made, into a page. */
-  claim(known, page, atoms, number) {
-    known.share(page);
-    known.put(cell.claim, true);
-    if (number !== null) known.put(cell.claims, [...known.get(cell.claims), { number, page, atoms, isHandled: false }]);
+  /** The code of an access to a page that isn't guaranteed: an exception leaves its code, its address and the bad address in registers. Where
+   * a step that retires may have left the same, it is looked where the next step is. */
+  codeByRegisters(cpu, { row, isEnd }, address, following) {
+    const handler = cpu.handlers[EXCEPTIONS], code = cpu.registers[AT] >>> 2 & 31, due = (code << 2 | (cpu.isInSlot ? 1 << 31 : 0)) >>> 0;
+    if (!handler || !(isStore(row.word) ? [1, 3] : [2]).includes(code) || cpu.registers[K0] !== (isEnd ? handler : cpu.restart())) return 0;
+    if (cpu.registers[AT] !== due || cpu.registers[K1] !== address) return 0;
+    const loaded = isStore(row.word) ? -1 : row.word >>> 16 & 31;
+    if (isEnd || [...row.told.keys()].some(it => it !== loaded)) return code;
+    const goesOn = following !== null && following.tick === row.tick + 1 && !this.turns.has(`${cpu.env} ${row.tick + 1}`);
+    return (goesOn ? following.pc : this.moments.core(cpu.env, row.tick + 1).pc) === handler ? code : 0;
   }
 }
-
-const WHAT = {
-  asked(known, tick, outstanding, deadline) {
-    this.note(known, "asked", tick, outstanding, deadline);
-    known.putContext(POST.outstanding, outstanding, deadline);
-  },
-  packet: Follower.prototype.packet, gives: Follower.prototype.gives, given: Follower.prototype.given,
-  line: Follower.prototype.line, take: Follower.prototype.take, start: Follower.prototype.start,
-  enter: Follower.prototype.enter, end: Follower.prototype.end, step: Follower.prototype.step,
-};

@@ -1,4 +1,4 @@
-// What a step that retires does, as far as a recording needs it: where it goes on, and what it stores (tools/instructions.py).
+// What a step does, as far as it isn't in a trace: where it goes on, what it stores, and whether it raises (tools/instructions.py).
 
 export const SYSCALL = 12, BREAK = 13;
 const WIDTHS = { 32: 1, 33: 2, 34: 1, 35: 4, 36: 1, 37: 2, 38: 1, 40: 1, 41: 2, 42: 1, 43: 4, 46: 1 }; // of loads and stores, by opcode
@@ -22,42 +22,38 @@ export function isJump(word) {
   return opcode >= 2 && opcode < 8 || opcode === 0 && (operation === 8 || operation === 9) || opcode === 1 && [0, 1, 16, 17].includes(kind);
 }
 
-/** Where a jump, or a branch that is taken, goes: after its delay slot where it isn't taken, null where that isn't known. */
-export function target(word, pc, registers) {
+/** Where a jump or a branch goes on after its delay slot, which is at `after`: elsewhere than `pc` + 4 if it is in a slot itself. */
+export function target(word, pc, after, registers) {
   const opcode = opcodeOf(word), rs = registers[word >>> 21 & 31], rt = registers[word >>> 16 & 31];
   if (opcode === 0) return rs;
   if (opcode === 2 || opcode === 3) return (pc + 4 & 0xf0000000 | (word & 0x3ffffff) << 2) >>> 0;
   let isTaken;
   if (opcode === 4 || opcode === 5) {
-    if (rs === null || rt === null) return null;
     isTaken = (rs === rt) === (opcode === 4);
-  } else if (rs === null) {
-    return null;
   } else if (opcode === 1) {
     isTaken = (rs | 0) < 0 === ((word >>> 16 & 1) === 0);
   } else {
     isTaken = (rs | 0) <= 0 === (opcode === 6);
   }
-  return pc + 4 + (isTaken ? 4 * half(word) : 4) >>> 0;
+  return (isTaken ? pc + 4 + 4 * half(word) : after + 4) >>> 0;
 }
 
-/** The address that a load or store goes to, where the word is one and the register is known. */
+/** The address that a load or store goes to, where the word is one. */
 export function access(word, registers) {
-  const rs = registers[word >>> 21 & 31];
-  return WIDTHS[opcodeOf(word)] === undefined || rs === null ? null : rs + half(word) >>> 0;
+  return WIDTHS[opcodeOf(word)] === undefined ? null : registers[word >>> 21 & 31] + half(word) >>> 0;
 }
 
-/** What a store puts: an address, and the bytes from there on, null for one that isn't known. */
+/** What a store puts: an address, and the bytes from there on. */
 export function stored(word, address, registers) {
   const opcode = opcodeOf(word), value = registers[word >>> 16 & 31], at = address % 4;
-  const data = [0, 8, 16, 24].map(shift => value === null ? null : value >>> shift & 255);
+  const data = [0, 8, 16, 24].map(shift => value >>> shift & 255);
   if (opcode === STORE_LEFT) return { address: address - at, data: data.slice(3 - at) };
   if (opcode === STORE_RIGHT) return { address, data: data.slice(0, 4 - at) };
   return { address, data: data.slice(0, WIDTHS[opcode]) };
 }
 
-/** The code of the exception that a step raises by what is known, 0 where it retires, null where that isn't known. `mapped` says of
- * the page of an access whether it is there, and whether it may be stored to. */
+/** The code of the exception that a step raises, 0 where it retires, null where that depends on `mapped`, which isn't known: it says of the
+ * page of an access whether it is there, and whether it may be stored to. */
 export function cause(word, pc, registers, mapped) {
   if (word === null) return pc % 4 || pc >>> 31 ? 4 : 2;
   const opcode = opcodeOf(word), operation = word & 63;
@@ -66,7 +62,6 @@ export function cause(word, pc, registers, mapped) {
   if (opcode === 0 && (operation === 32 || operation === 34) || opcode === 8) return overflow(word, registers);
   if (WIDTHS[opcode] === undefined) return 0;
   const address = access(word, registers);
-  if (address === null) return null;
   if (address % WIDTHS[opcode] || address >>> 31) return isStore(word) ? 5 : 4;
   if (mapped === null) return null;
   if (!mapped.isThere) return isStore(word) ? 3 : 2;
@@ -76,7 +71,6 @@ export function cause(word, pc, registers, mapped) {
 /** 12 where ADD, ADDI or SUB overflows, 0 where it doesn't. */
 function overflow(word, registers) {
   const left = registers[word >>> 21 & 31], right = opcodeOf(word) === 8 ? half(word) : registers[word >>> 16 & 31];
-  if (left === null || right === null) return null;
   const isDifference = opcodeOf(word) === 0 && (word & 63) === 34;
   const total = (left | 0) + (isDifference ? -(right | 0) : right | 0);
   return total >= -(2 ** 31) && total < 2 ** 31 ? 0 : 12;

@@ -15,9 +15,9 @@ function lookedAt(workshop, report, env) {
   const sees = (vpn, ticks) => workshop.core(ticks, env.number)?.pages.has(vpn) ?? false, rows = tables.limits.rows[workshop.version()];
   const reader = new CallReader(entries(report, env.number)), refused = new Refused(), stripe = new Stripe(rows, sees);
   const windows = busyWindows(report, env.number), isCut = env.life === "live" && report.ending === "limit";
-  const last = workshop.traceOf(env.number, windows.at(-1)), start = new Start(isCut ? loopOf(last) : new Set());
+  const traceOf = ({ first, end }) => workshop.trace(end, env.number, first), last = traceOf(windows.at(-1)), start = new Start(isCut ? loopOf(last) : new Set());
   for (const window of windows) {
-    const text = window === windows.at(-1) ? last : workshop.traceOf(env.number, window);
+    const text = window === windows.at(-1) ? last : traceOf(window);
     for (const call of reader.calls(text)) {
       refused.note(call);
       stripe.note(call);

@@ -1,13 +1,21 @@
-// The memory of a recording at each of its steps, forwards and backwards, of what the recording says: pages at boot, bindings, stores.
+// The memory of a run at each of a page's steps, forwards and backwards: what is seen at the first one, and what changes.
 
-const PAGE_SIZE = 4096;
+const PAGE_SIZE = 4096, CONTEXT_VPN = 1, WORD = 4;
 
-/** Memory, at a place in a recording. A byte that isn't known is the reason, as a text. */
+const bytesOf = digits => digits.match(/../g)?.map(it => parseInt(it, 16)) ?? [];
+
+/** Memory, at a place among the steps. */
 export class StepMemory {
-  constructor({ pages, rows }, steps) {
-    Object.assign(this, { rows, steps, done: 0, undo: [], changed: new Set(), at: null });
-    this.cells = new Map();
-    this.boot = new Map(Object.entries(pages).map(([page, digits]) => [page, digits.match(/../g)?.map(it => parseInt(it, 16)) ?? []]));
+  constructor(pages, steps) {
+    Object.assign(this, { steps, done: 0, undo: [], changed: new Set(), pages: new Map() });
+    for (const [vpn, digits] of Object.entries(pages)) this.put(Number(vpn), 0, bytesOf(digits));
+  }
+
+  /** Puts bytes into a page, which is there from then on. */
+  put(vpn, place, bytes) {
+    const page = this.pages.get(vpn) ?? new Uint8Array(PAGE_SIZE);
+    page.set(bytes, place);
+    this.pages.set(vpn, page);
   }
 
   /** Goes to after so many steps. */
@@ -15,68 +23,42 @@ export class StepMemory {
     while (this.done < done) this.forwards(this.steps[this.done++]);
     while (this.done > done) {
       this.done--;
-      for (const [key, old] of this.undo.pop().reverse()) {
-        if (old === undefined) this.cells.delete(key);
-        else this.cells.set(key, old);
+      for (const [vpn, old] of this.undo.pop()) {
+        if (old) this.pages.set(vpn, old);
+        else this.pages.delete(vpn);
       }
     }
     this.changed.clear();
-    for (const [page, place, digits] of (done && this.steps[done - 1][8]) || []) {
-      for (let at = 0; typeof digits === "string" && at < digits.length / 2; at++) this.changed.add(`${page} ${place + at}`);
+    for (const [vpn, place, digits] of (done && this.steps[done - 1][8]) || []) {
+      for (let at = 0; digits && at < digits.length / 2; at += WORD) this.changed.add(vpn * PAGE_SIZE + place + at);
     }
   }
 
   forwards(step) {
-    const undo = [];
-    const put = (key, value) => {
-      undo.push([key, this.cells.get(key)]);
-      this.cells.set(key, value);
-    };
-    for (const [what, ...rest] of step[8] ?? []) {
-      if (what === "row") put(`row ${rest[0]}`, rest.length > 1 ? { vpn: rest[1], page: rest[2] } : null);
-      else if (what === "shared") put(`shared ${rest[0]}`, true);
-      else if (what === "vague" || what === "lost") put(what, true);
-      else for (let at = 0; at < rest[1].length / 2; at++) put(`${what} ${rest[0] + at}`, rest[1][2 * at] === "?" ? null : parseInt(rest[1].substr(2 * at, 2), 16));
+    const changes = step[8] ?? [];
+    this.undo.push([...new Set(changes.map(([vpn]) => vpn))].map(vpn => [vpn, this.pages.get(vpn)?.slice()]));
+    for (const [vpn, place, digits] of changes) {
+      if (digits === undefined) this.pages.delete(vpn);
+      else this.put(vpn, place, bytesOf(digits));
     }
-    this.undo.push(undo);
   }
 
-  /** The page at an address, if one is there; null for another's. */
-  pageAt(address) {
-    const vpn = Math.floor(address / PAGE_SIZE), bound = this.cells.get(`row ${vpn % this.rows}`);
-    return this.boot.has(`v${vpn}`) ? `v${vpn}` : bound && bound.vpn === vpn ? bound.page : undefined;
-  }
-
-  /** The byte at an address, or why it isn't known. */
+  /** The byte at an address, or nothing where no page is. */
   byte(address) {
-    const page = this.pageAt(address), place = address % PAGE_SIZE;
-    if (page === undefined) return this.cells.get("vague") ? "a page that isn't known" : "no page is there";
-    if (page === null) return "another's page";
-    if (this.cells.get("lost")) return "a store went to an address that isn't known";
-    if (this.cells.get(`shared ${page}`)) return "others or the kernel store there too";
-    const value = this.cells.get(`${page} ${place}`);
-    return value === null ? "it came from elsewhere" : value ?? this.boot.get(page)?.[place] ?? 0;
+    return this.pages.get(Math.floor(address / PAGE_SIZE))?.[address % PAGE_SIZE];
   }
 
-  /** Whether the last step changed the byte at an address. */
+  /** Whether the last step, or what happened before it, changed the word at an address. */
   isNew(address) {
-    const page = this.pageAt(address);
-    return Boolean(page) && this.changed.has(`${page} ${address % PAGE_SIZE}`);
+    return this.changed.has(address - address % WORD);
   }
 
-  /** The address of the last store up to this step, into a page of the program; none where there is none. */
-  lastStore() {
+  /** The address of the last change up to this step, but in the context page; none where there is none. */
+  lastChange() {
     for (let at = this.done - 1; at >= 0; at--) {
-      const found = (this.steps[at][8] ?? []).find(([page, , digits]) => typeof digits === "string" && page !== "v1");
-      const address = found && this.addressOf(found);
-      if (address !== undefined) return address;
+      const found = (this.steps[at][8] ?? []).find(([vpn, , digits]) => vpn !== CONTEXT_VPN && digits);
+      if (found) return found[0] * PAGE_SIZE + found[1];
     }
-    return undefined;
-  }
-
-  addressOf([page, place]) {
-    if (page.startsWith("v")) return Number(page.slice(1)) * PAGE_SIZE + place;
-    for (const [key, bound] of this.cells) if (key.startsWith("row ") && bound?.page === page) return bound.vpn * PAGE_SIZE + place;
     return undefined;
   }
 }

@@ -224,26 +224,18 @@ class Page {
 
   // Steps
 
-  /** Shows the steps of an environment, of those ticks that a trace may have; at a tick, where one is said. */
+  /** Shows the steps of an environment, of those ticks that a page may have; around a tick, where one is said. */
   async step(env, tick = null) {
-    const words = this.words(), most = tables.limits.traced;
-    let found = this.found;
-    if (!found || found.failure || found.report.time > most) found = await this.perform({ ...words, ticks: Math.min(words.ticks, most) });
-    if (!found || found.failure) return this.runAll();
-    if (found !== this.found) await this.restore();
+    if (!this.found || this.found.failure) await this.runAll();
+    const { found } = this;
+    if (!found || found.failure) return;
     const title = `${this.project.words.sources}, ${found.report.environments[env].name}, step by step`;
-    const data = stepData(found, env, title);
+    const data = stepData(found, env, title, tick ?? 0);
     at("page").hidden = true;
     at("stepper").hidden = false;
     window.scrollTo(0, 0);
     const go = showSteps(data, () => this.close());
     if (tick !== null) go(data.steps.filter(it => it[0] <= tick).length);
-  }
-
-  /** Shows the run again after another was made for its steps. */
-  async restore() {
-    if (this.found) at("ends").replaceChildren(...cards(this.found, this.visit));
-    else await this.runAll();
   }
 
   close() {

@@ -205,18 +205,16 @@ export class Workshop {
       ...(more ? [more] : [])], this.schedule, place);
   }
 
-  /** The text of an environment's trace, of as many ticks as there may be. */
-  trace(ticks, env) {
-    const { status, output } = this.aegis("trace", "try.img", "try.sch", String(Math.min(ticks, tables.limits.traced)), String(env));
-    if (status) throw new Failed(status, [`\`trace\` ended with ${status}`]);
-    return ascii(output);
+  /** What a command over the image and its schedule writes. */
+  written(command, ...words) {
+    const { status, output } = this.aegis(command, "try.img", "try.sch", ...words.map(String));
+    if (status) throw new Failed(status, [`\`${command}\` ended with ${status}`]);
+    return output;
   }
 
-  /** The text of an environment's trace in a window. */
-  traceOf(env, { first, end }) {
-    const { status, output } = this.aegis("trace", "try.img", "try.sch", String(end), String(env), ...(first ? [String(first)] : []));
-    if (status) throw new Failed(status, [`\`trace\` ended with ${status}`]);
-    return ascii(output);
+  /** The text of an environment's trace, from a tick on. */
+  trace(ticks, env, first = 0) {
+    return ascii(this.written("trace", ticks, env, first));
   }
 
   /** The state of an environment after some ticks, or null where it doesn't live then. */

@@ -1,9 +1,7 @@
-// A run of an environment that is recorded, as tools/recording.py does it: the lines of its trace, each with what was known before
-// and after it. What the kernel changes while others run is known of the report's rows and of the traces of those who call it.
+// What a run leaves: the lines of its traces (docs/REPORT.md, "The trace"), the events of its schedule, and whose its ticks are
+// (tools/trace_lines.py, tools/timeline.py).
 
-import { Follower } from "./follower.js";
-import { HI, LO } from "./knowledge.js";
-import { TRANSFERS } from "./refused.js";
+import { HI, LO } from "./registers.js";
 import { wordsOf } from "./text.js";
 
 const LINE = /^(\d+) ([0-9a-f]{8}) ([0-9a-f]{8}|-{8}) (.+?)((?: (?:\$\d+|hi|lo) [0-9a-f]{8})*)( dead)?$/;
@@ -22,15 +20,6 @@ export function readTrace(text) {
   return text.split("\n").slice(1, -3).map(readRow);
 }
 
-/** The environment and those that call it by transfers, or call these. */
-export function callers(report, number) {
-  const found = [number], rows = report.marks.filter(it => TRANSFERS.includes(it.kind)).map(it => it.words.map(Number));
-  for (const env of found) {
-    for (const words of rows) if (words[4] === env && !found.includes(words[3])) found.push(words[3]);
-  }
-  return found;
-}
-
 /** The packets and signals of a schedule: tick, kind, and a packet's bytes or the line. */
 export function eventsOf(schedule) {
   const found = [];
@@ -41,8 +30,54 @@ export function eventsOf(schedule) {
   return found;
 }
 
-/** The recording of an environment of a run: `traceOf` answers the rows of an environment's trace. */
-export function recorded(image, report, env, traceOf, events) {
-  const traces = new Map(callers(report, env).map(it => [it, traceOf(it)]));
-  return new Follower(image, report, traces, events).recording(env);
+/** The first place of a rising list whose number is above another, or is that. */
+export function firstAbove(list, number, orIsIt) {
+  let from = 0, to = list.length;
+  while (from < to) {
+    const middle = from + to >> 1;
+    if (orIsIt ? list[middle] >= number : list[middle] > number) to = middle;
+    else from = middle + 1;
+  }
+  return from;
+}
+
+/** A list in the order of ticks, and a part of it. */
+export class Ordered {
+  constructor(list, tickOf) {
+    Object.assign(this, { list, ticks: list.map(tickOf) });
+  }
+
+  /** What is in the ticks from `first` to `last` - 1. */
+  within(first, last) {
+    return this.list.slice(firstAbove(this.ticks, first, true), firstAbove(this.ticks, last, true));
+  }
+}
+
+/** The slices of an environment, in each tick of which it makes a step. Its steps are counted from 0. */
+export class Turns {
+  constructor(report, env) {
+    const slices = report.slices.filter(it => it.env === env);
+    Object.assign(this, { starts: slices.map(it => it.start), ends: slices.map(it => it.end), before: [], steps: 0 });
+    for (const { start, end } of slices) {
+      this.before.push(this.steps);
+      this.steps += end - start;
+    }
+  }
+
+  /** The tick of a step. */
+  tick(place) {
+    const at = firstAbove(this.before, place, false) - 1;
+    return this.starts[at] + place - this.before[at];
+  }
+
+  /** How many steps were made up to a tick, with that of the tick. */
+  made(tick) {
+    const at = firstAbove(this.starts, tick, false) - 1;
+    return at >= 0 ? this.before[at] + Math.min(tick + 1, this.ends[at]) - this.starts[at] : 0;
+  }
+
+  /** Whether a step is the first one of a slice. */
+  begins(place) {
+    return this.before[firstAbove(this.before, place, true)] === place;
+  }
 }

@@ -17,7 +17,7 @@ function make(tag, name, text) {
 
 const put = (registers, list) => { for (let i = 0; i < list.length; i += 2) registers[list[i]] = list[i + 1]; };
 const names = (list, register) => list.some((it, i) => i % 2 === 0 && it === register);
-const hex = value => value === null ? "?" : (value >>> 0).toString(16).padStart(8, "0");
+const hex = value => (value >>> 0).toString(16).padStart(8, "0");
 
 /** Scrolls a pane so far that a line of it is seen. */
 function reveal(pane, line, part) {
@@ -185,7 +185,7 @@ class StepView {
     this.cells.forEach((cell, i) => {
       const value = registers[i], isOwn = step && names(step[OWN], i), isKernel = step && names(step[KERNEL], i);
       cell.children[1].textContent = hex(value);
-      cell.children[2].textContent = value === null ? "" : value | 0;
+      cell.children[2].textContent = value | 0;
       cell.className = isOwn ? "new" : isKernel ? "kernel" : "";
     });
   }
@@ -200,9 +200,9 @@ class StepView {
     if (last) reveal(at("calls"), last, 2);
   }
 
-  /** The address that a word says: a number, a label, a register; of no word that of the last store. */
+  /** The address that a word says: a number, a label, a register; of no word that of the last change. */
   addressOf(word) {
-    if (!word) return this.memory.lastStore() ?? (this.memory.pageAt(0x10000000) ? 0x10000000 : this.now[this.registerOf("$sp")]);
+    if (!word) return this.memory.lastChange() ?? (this.memory.byte(0x10000000) === undefined ? this.now[this.registerOf("$sp")] : 0x10000000);
     if (/^([0-9]+|0x[0-9a-f]{1,8})$/i.test(word)) return Number(word) >>> 0;
     const found = /^([\w.]+)([+-][0-9]+)?$/.exec(word), register = this.registerOf(word);
     if (register >= 0) return this.now[register];
@@ -217,18 +217,15 @@ class StepView {
 
   showMemory() {
     const pane = at("memory"), word = at("address").value.trim(), address = this.addressOf(word), rows = [];
-    if (address === undefined || address === null) {
-      pane.replaceChildren(make("div", "word-row", address === null ? `${word} isn't known here` : `there is no label ${word}, nor is it an address`));
+    if (address === undefined) {
+      pane.replaceChildren(make("div", "word-row", `there is no label ${word}, nor is it an address`));
       return;
     }
     const first = address - address % 16;
-    let why = "";
     for (let from = first; from < first + 16 * MEMORY_ROWS && from < 2 ** 32; from += 16) {
-      const bytes = Array.from({ length: 16 }, (_, i) => this.memory.byte(from + i)), reason = bytes.find(it => typeof it === "string");
-      rows.push(this.memoryRow(from, bytes));
-      if (reason && reason !== why) rows.push(make("div", "word-row", `  ${hex(from)} isn't known: ${reason}`));
-      why = reason ?? "";
-      if (reason === "no page is there" && bytes.every(it => it === reason)) break;
+      const bytes = Array.from({ length: 16 }, (_, i) => this.memory.byte(from + i)), isThere = bytes[0] !== undefined;
+      rows.push(isThere ? this.memoryRow(from, bytes) : make("div", "word-row", `${hex(from)}  no page is here`));
+      if (!isThere) break;
     }
     pane.replaceChildren(...rows);
   }
@@ -236,12 +233,12 @@ class StepView {
   memoryRow(from, bytes) {
     const row = make("div", "word-row", `${hex(from)} `);
     for (let i = 0; i < 16; i += 4) {
-      const digits = bytes.slice(i, i + 4).reverse().map(it => typeof it === "string" ? "??" : it.toString(16).padStart(2, "0")).join("");
-      const word = make("span", [0, 1, 2, 3].some(k => this.memory.isNew(from + i + k)) ? "new" : "", digits);
-      if (!digits.includes("?")) word.title = `${parseInt(digits, 16) | 0} at 0x${hex(from + i)}`;
+      const digits = bytes.slice(i, i + 4).reverse().map(it => it.toString(16).padStart(2, "0")).join("");
+      const word = make("span", this.memory.isNew(from + i) ? "new" : "", digits);
+      word.title = `${parseInt(digits, 16) | 0} at 0x${hex(from + i)}`;
       row.append(" ", word);
     }
-    const letters = bytes.map(it => typeof it === "string" ? "?" : it >= 32 && it < 127 ? String.fromCharCode(it) : ".").join("");
+    const letters = bytes.map(it => it >= 32 && it < 127 ? String.fromCharCode(it) : ".").join("");
     row.append(`  ${letters}  `, make("i", "", this.labelsIn(from, from + 16)));
     return row;
   }

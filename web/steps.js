@@ -1,96 +1,124 @@
-// A recording as the data that the stepper shows, as tools/step_page.py makes it (docs/STEPPING.md, "What a page has").
+// Steps of a run as the data that the stepper shows, as tools/step_page.py makes it (docs/STEPPING.md, "As a page").
 
-import { Meanwhile, noteLines, slicePlaces } from "./between.js";
+import { ENTERED, Meanwhile, noteLines, notesBetween } from "./between.js";
+import * as calls from "./calls.js";
+import { ClaimHistory } from "./claims.js";
+import { Follower, handlersAfter } from "./follower.js";
 import { readImage } from "./image.js";
-import { isStore } from "./instructions.js";
-import { cell, CONTEXT, K1 } from "./knowledge.js";
+import { opcodeOf } from "./instructions.js";
+import { Memory, Moments } from "./moments.js";
 import { placesOf } from "./places.js";
-import { eventsOf, readTrace, recorded } from "./recording.js";
+import { eventsOf, firstAbove, Ordered, Turns } from "./recording.js";
+import { K1, registersOf } from "./registers.js";
 import { readStatement } from "./source.js";
 import { tables } from "./tables.js";
 import { address, counted, latin, shown, utf8 } from "./text.js";
 
 const LARGEST_DECIMAL = 9_999, WORD = 2 ** 32;
-const isByte = it => typeof it.key === "string" && it.key.startsWith("byte ");
-const digitsOf = value => value === null ? "??" : value.toString(16).padStart(2, "0");
+const REMAPPING = [calls.FREE, calls.BIND, calls.UNBIND]; // calls that change which pages are seen
+const PARTS = [42, 46]; // opcodes of stores that put a part of a word
+const digitsOf = bytes => [...bytes].map(value => value.toString(16).padStart(2, "0")).join("");
+const wordOf = bytes => bytes.reduceRight((value, byte) => value * 256 + byte, 0);
 
-/** A register's value: small ones in decimal, with a sign where it has one; `?` where it isn't known. */
+/** A register's value: small ones in decimal, with a sign where it has one. */
 function numberShown(value) {
-  if (value === null) return "?";
   if (value <= LARGEST_DECIMAL) return String(value);
   return value >= WORD - LARGEST_DECIMAL ? String(value - WORD) : `0x${address(value)}`;
 }
 
 /** Register and value by turns, of those that change. */
-function registersOf(changes) {
-  const last = new Map();
-  for (const it of changes) if (typeof it.key === "number") last.set(it.key, it.value);
-  return [...last].flat();
-}
+const changesOf = changes => changes.flatMap(({ register, value }) => [register, value]);
 
 /** The registers that differ after some changes, by their names. */
 function registersChanged(changes) {
-  const first = new Map(), last = new Map();
-  for (const it of changes) {
-    if (typeof it.key !== "number") continue;
-    if (!first.has(it.key)) first.set(it.key, it.old);
-    last.set(it.key, it.value);
-  }
-  return [...last].sort(([one], [two]) => one - two).filter(([key, value]) => value !== first.get(key))
-    .map(([key, value]) => `${tables.names[key]} = ${numberShown(value)}`);
+  return [...changes].sort((one, two) => one.register - two.register).map(it => `${tables.names[it.register]} = ${numberShown(it.value)}`);
 }
 
-/** What changes of memory: a page with a place and the bytes there as digits, a binding (none where it ends), and what others may
- * store to or isn't known from here on. */
-function memoryOf(changes) {
-  const found = [];
-  for (const { key, value } of changes) {
-    if (typeof key !== "string") continue;
-    const [what, page, place] = key.split(" "), before = found.at(-1);
-    if (what === "byte") {
-      if (before?.[0] === page && before[1] + before[2].length / 2 === Number(place)) before[2] += digitsOf(value);
-      else found.push([page, Number(place), digitsOf(value)]);
-    } else if (what === "row") {
-      found.push(["row", Number(page), ...(value ? [value.vpn, value.page] : [])]);
-    } else if (what === "shared") {
-      found.push(["shared", page]);
-    } else if (key === cell.isVague || key === cell.isLost) {
-      found.push([key]);
-    }
-  }
-  return found;
-}
-
-/** What a store put, as the word or the bytes at its address. `known` is what is known after the step. */
-function bytesStored(step, known, places) {
-  if (step.row.word === null || !isStore(step.row.word)) return [];
-  const isPut = step.own.some(it => isByte(it) && it.key.split(" ")[1] !== CONTEXT), found = /,(-?\d+)\(\$(\d+)\)/.exec(step.row.text);
-  const base = found ? known.registers[Number(found[2])] : null;
-  if (!isPut || base === null) return [];
-  const width = { 40: 1, 41: 2 }[step.row.word >>> 26] ?? 4, reached = base + Number(found[1]) >>> 0, at = reached - (width === 4 ? reached % 4 : 0);
-  const bytes = Array.from({ length: width }, (_, place) => known.byte(at + place));
-  if (bytes.includes(null)) return [];
-  return [`[${places.name(at) || `0x${address(at)}`}] = ${numberShown(bytes.reduceRight((value, byte) => value * 256 + byte, 0))}`];
-}
-
-/** How the environment ended. */
-function ending(env, report, steps) {
+/** How the environment ended, whose last step was in this tick, if there was one. */
+function ending(env, report, last) {
   const who = `${env.number} ${env.name}:`;
-  if (!steps.length) return `${who} no step in ${counted(report.time)} ticks`;
+  if (last === null) return `${who} no step in ${counted(report.time)} ticks`;
   if (env.life === "live") return `${who} ${report.ending === "limit" ? "alive at the limit" : "alive, without a slot"}, after ${counted(report.time)} ticks`;
   const how = env.life === "exit" ? `exit ${env.why}` : `dead ${env.why}`;
-  return `${who} ${how} in tick ${counted(steps.at(-1).row.tick)}${env.life === "dead" ? `: ${tables.causes[env.why]}` : ""}`;
+  return `${who} ${how} in tick ${counted(last)}${env.life === "dead" ? `: ${tables.causes[env.why]}` : ""}`;
+}
+
+/** The steps of an environment of a run in the ticks that a page may have, from a tick on. Steps are counted from 0 at the start of the run. */
+class Steps {
+  constructor(run, number, tick) {
+    const { report, events } = run, outside = report.marks.filter(it => it.kind === "asked" || it.kind === "take").map(it => it.time);
+    Object.assign(this, { run, number, end: report.time, turns: new Turns(report, number), claims: new ClaimHistory(run, number), known: null,
+      events: new Ordered(events, it => it[0]), marks: new Ordered(report.marks, it => it.time), slices: new Ordered(report.slices, it => it.start) });
+    const last = Math.min(tick + tables.limits.page, this.end);
+    this.kept = run.image.environments[number].pages;
+    this.env = run.report.environments[number];
+    this.disturbed = [...this.events.ticks, ...outside].sort((one, two) => one - two); // ticks in which something happens from outside
+    this.first = tick ? this.turns.made(tick - 1) : 0; // how many steps are before these
+    this.last = Math.max(last ? this.turns.made(last - 1) : 0, this.first);
+    this.before = registersOf(run.moments.core(number, this.first ? this.turns.tick(this.first - 1) + 1 : 0)); // the registers before these
+    this.steps = this.last > this.first ? new Follower(run, number, tick, last).followed(this.before) : [];
+    this.put = run.moments.console(number, tick);
+  }
+
+  at(place) {
+    return this.steps[place - this.first];
+  }
+
+  /** The memory after so many steps; after its last one, if it died of that, what the step left. */
+  memory(done) {
+    if (this.known?.done !== done) this.known = { done, memory: this.coreMemory(done) };
+    return this.known.memory;
+  }
+
+  /** The same by `core`. */
+  coreMemory(done) {
+    const step = done > this.first ? this.at(done - 1) : null, isDead = step?.row.isDead;
+    const memory = new Memory(this.run.moments.core(this.number, done ? this.turns.tick(done - 1) + (isDead ? 0 : 1) : 0), this.kept);
+    if (isDead && step.stored) memory.put(step.stored);
+    return memory;
+  }
+
+  /** Whether a step changes memory by what it stores alone. */
+  isPlain(memory, place) {
+    const { row, cause, isEnd, number, code, stored } = this.at(place), before = place ? this.turns.tick(place - 1) : -1;
+    if (row.isDead || cause || isEnd || REMAPPING.includes(number) && code === 0) return false;
+    if (firstAbove(this.disturbed, row.tick, false) > firstAbove(this.disturbed, before, false)) return false;
+    if (row.tick > before + 1 && memory.bound.length) return false;
+    if (this.turns.begins(place) && this.notes(place).some(it => ENTERED.includes(it.kind))) return false;
+    return !stored || !memory.mayBeTwice(Math.floor(stored.address / tables.limits.pageSize));
+  }
+
+  /** What is another in memory after a step than before it (`Memory.differences`). */
+  memoryChanges(place) {
+    const { pageSize } = tables.limits, memory = this.memory(place), { stored } = this.at(place), at = stored ? stored.address - stored.address % 4 : 0;
+    if (!this.isPlain(memory, place)) {
+      this.known = { done: place + 1, memory: this.coreMemory(place + 1) };
+      return memory.differences(this.known.memory);
+    }
+    const old = stored ? memory.read(at, 4) : [];
+    if (stored) memory.put(stored);
+    this.known = { done: place + 1, memory };
+    const bytes = stored ? memory.read(at, 4) : [];
+    return bytes.every((it, byte) => it === old[byte]) ? [] : [[Math.floor(at / pageSize), at % pageSize, bytes]];
+  }
+
+  /** What happened to the environment before a step, after the one before it; after the last one where there is no such step. */
+  notes(place) {
+    const first = place ? this.turns.tick(place - 1) : -1, last = place < this.turns.steps ? this.turns.tick(place) : this.end;
+    const before = this.at(place - 1), handlers = this.at(place)?.handlers ?? (before ? handlersAfter(before, before.before) : [0, 0, 0, 0, 0]);
+    return notesBetween(this, first, last, handlers);
+  }
 }
 
 /** What the stepper is given. */
 class StepData {
-  constructor(recording, program, title) {
-    Object.assign(this, { recording, program, title, places: placesOf(program), files: new Map(), spots: new Map(), rows: [], lengths: new Map() });
+  constructor(steps, program, title) {
+    Object.assign(this, { steps, program, title, places: placesOf(program), files: new Map(), spots: new Map(), rows: [], lengths: new Map() });
     const addresses = [...program.listing.keys()].sort((one, two) => one - two);
-    this.env = recording.report.environments[recording.number];
+    this.env = steps.env;
     this.listing = this.places.lines.size ? [] : addresses.map(it => program.listing.get(it));
     this.atListing = new Map(addresses.map((it, at) => [it, at + 1]));
-    this.known = recording.boot();
+    this.registers = [...steps.before];
   }
 
   /** An instruction, by its address. */
@@ -119,58 +147,75 @@ class StepData {
     return this.lengths.get(length);
   }
 
-  step(step) {
-    for (const it of [...step.kernel, ...step.own]) {
-      if (typeof it.key === "number") this.known.registers[it.key] = it.value;
-      else this.known.cells.set(it.key, it.value);
-    }
-    const memory = memoryOf([...step.kernel, ...step.own]);
-    const told = step.answered ? `${step.asked} = ${step.answered}` : step.row.isDead || step.own.some(isByte) ? this.told(step) : "";
-    return [step.row.tick, this.spot(step.row), registersOf(step.own), registersOf(step.kernel), this.console(step.console), shown(told),
-      Number(Boolean(step.asked || step.row.isDead)), Number(Boolean(step.code)), ...(memory.length ? [memory] : [])];
+  step(step, at) {
+    const { steps } = this, { row, stored, cause, isEnd, kernel, own, asked, answered } = step;
+    for (const it of [...kernel, ...own]) this.registers[it.register] = it.value;
+    const memory = steps.memoryChanges(steps.first + at).map(([vpn, place, bytes]) => bytes ? [vpn, place, digitsOf(bytes)] : [vpn]);
+    const told = answered ? `${asked} = ${answered}` : row.isDead || stored || cause || isEnd ? this.told(step) : "";
+    return [row.tick, this.spot(row), changesOf(own), changesOf(kernel), this.console(steps.put + step.put), shown(told), Number(Boolean(asked || row.isDead)),
+      Number(Boolean(step.code)), ...(memory.length ? [memory] : [])];
   }
 
   /** What a step asked, was answered, and changed. */
   told(step) {
-    const effects = [step.asked, this.exception(step), registersChanged(step.own).join(", "), ...bytesStored(step, this.known, this.places), step.row.isDead ? "dead" : ""];
+    const effects = [step.asked, this.exception(step), registersChanged(step.own).join(", "), this.stored(step), step.row.isDead ? "dead" : ""];
     return effects.filter(it => it).join("; ");
+  }
+
+  /** What a step put into memory, as the word or the bytes at its address; of part of a word, all of that. Memory is that after it. */
+  stored({ stored, row }) {
+    if (!stored) return "";
+    const isPart = PARTS.includes(opcodeOf(row.word)), at = isPart ? stored.address - stored.address % 4 : stored.address;
+    const data = isPart ? this.steps.known.memory.read(at, 4) : stored.data;
+    return `[${this.places.name(at) || `0x${address(at)}`}] = ${numberShown(wordOf(data))}`;
   }
 
   /** The exception that a step raised: its name, its code, and the bad address if it has one. */
   exception({ cause }) {
-    const bad = this.known.registers[K1];
-    if (cause === null) return "";
-    return `exception ${tables.exceptions[cause] ?? "?"} (${cause})${cause >= 1 && cause <= 5 && bad !== null ? ` at 0x${address(bad)}` : ""}, to handler`;
+    if (!cause) return "";
+    return `exception ${tables.exceptions[cause] ?? "?"} (${cause})${cause <= 5 ? ` at 0x${address(this.registers[K1])}` : ""}, to handler`;
   }
 
-  /** What happened before each step, and after the last one, where something did. */
+  /** What happened before each step, and after the last one of the run, where something did. */
   between() {
-    const { steps, report, number, notes } = this.recording, meanwhile = new Meanwhile(report, number);
-    const lines = steps.map((it, at) => [at + 1, [...meanwhile.line(at ? steps[at - 1].row.tick : null, it.row.tick), ...noteLines(it.notes, this.places)]]);
-    return [...lines, [steps.length + 1, noteLines(notes, this.places)]].filter(([, it]) => it.length);
+    const { steps: { steps, first, last, turns, number, run }, places } = this, meanwhile = new Meanwhile(run.report, number);
+    const lines = steps.map(({ row }, at) => {
+      const place = first + at, before = place ? turns.tick(place - 1) : null;
+      return [at + 1, [...meanwhile.line(before, row.tick), ...noteLines(this.steps.notes(place), places)]];
+    });
+    const end = last === turns.steps ? [[last - first + 1, noteLines(this.steps.notes(last), places)]] : [];
+    return [...lines, ...end].filter(([, it]) => it.length);
   }
 
   /** The steps with which slices begin, before which packets arrive, and that raise exceptions which a handler takes. */
   marks() {
-    const placesOf = fits => this.recording.steps.flatMap((it, at) => fits(it) ? [at + 1] : []);
-    return { slice: slicePlaces(this.recording), packet: placesOf(it => it.notes.some(note => note.kind === "packet")), miss: placesOf(it => it.cause !== null) };
+    const { steps, first, turns } = this.steps, placesOf = fits => steps.flatMap((it, at) => fits(it, first + at) ? [at + 1] : []);
+    return { slice: placesOf((_, place) => turns.begins(place)), miss: placesOf(it => it.cause),
+      packet: placesOf((_, place) => this.steps.notes(place).some(note => note.kind === "packet")) };
+  }
+
+  /** How the environment ended, or that the page does. */
+  ending() {
+    const { last, turns, run } = this.steps;
+    if (last < turns.steps) return `of these steps: a page has at most ${counted(tables.limits.page)} ticks of the run`;
+    return ending(this.env, run.report, last ? turns.tick(last - 1) : null);
   }
 
   all() {
-    const { recording, env } = this, boot = recording.boot(), steps = recording.steps.map(it => this.step(it));
+    const { steps, env } = this, first = [...this.registers];
+    const pages = [...steps.memory(steps.first).pages].sort(([one], [two]) => one - two).map(([vpn, page]) => [vpn, digitsOf(page).replace(/(00)+$/, "")]);
+    const rows = steps.steps.map((it, at) => this.step(it, at));
     const sources = this.listing.length ? [["instructions", this.listing]]
       : [...this.files.keys()].map(name => [name, (this.places.sources.get(name) ?? []).map(shown)]);
-    const pages = [...boot.boot.pages].sort(([one], [two]) => one - two).map(([vpn, page]) => [`v${vpn}`, [...page].map(digitsOf).join("").replace(/(00)+$/, "")]);
-    return { title: this.title, labels: Object.fromEntries(this.places.labels), memory: { rows: boot.rows, pages: Object.fromEntries(pages) },
-      names: tables.names, first: boot.registers, spots: this.rows, steps, marks: this.marks(), between: this.between(), files: sources, console: shown(utf8(env.console)),
-      end: ending(env, recording.report, recording.steps) };
+    return { title: this.title, labels: Object.fromEntries(this.places.labels), memory: Object.fromEntries(pages), names: tables.names, first,
+      spots: this.rows, steps: rows, marks: this.marks(), between: this.between(), files: sources, console: shown(utf8(env.console)), end: this.ending() };
   }
 }
 
-/** The stepper's data of an environment of a run that was told. */
-export function stepData(found, number, title) {
-  const { workshop, report } = found, image = readImage(workshop.room.get("try.img"));
-  const events = workshop.schedule ? eventsOf(latin(workshop.room.get("try.sch"))) : [];
-  const recording = recorded(image, report, number, env => readTrace(workshop.trace(report.time, env)), events);
-  return new StepData(recording, workshop.programs[number], title).all();
+/** The stepper's data of an environment of a run that was told: the steps of the ticks that a page may have, with this one in their middle. */
+export function stepData(found, number, title, middle = 0) {
+  const { workshop, report } = found, image = readImage(workshop.room.get("try.img")), most = tables.limits.page;
+  const events = workshop.schedule ? eventsOf(latin(workshop.room.get("try.sch"))).filter(it => it[0] < report.time) : [];
+  const tick = Math.max(Math.min(middle - most / 2, report.time - most), 0);
+  return new StepData(new Steps({ moments: new Moments(workshop), report, image, events }, number, tick), workshop.programs[number], title).all();
 }

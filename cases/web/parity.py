@@ -30,8 +30,8 @@ sys.path[:0] = [f"{ROOT}/tools", f"{ROOT}/cases"]
 import step_page
 from loading import loaded
 from places import places_of
-from programs import WARNED, Failed, made_machine, run, tool
-from tracing import recorded
+from programs import WARNED, Failed, made_machine, tool
+from steps import Steps, run_of
 
 TRY = tool("try")
 RUNNER = loaded(f"{ROOT}/cases/run")
@@ -163,12 +163,11 @@ def steps_of(item: Item) -> Optional[Dict[str, Any]]:
     with tempfile.TemporaryDirectory(prefix="aegis-web-") as room, contextlib.redirect_stdout(io.StringIO()):
         try:
             machine = made_machine(item.sources, QUANTUM, item.schedule or None, room)
-            report = run(machine, TICKS)
-            recording = recorded(machine, TICKS, item.env or 0, report)
+            steps = Steps(run_of(machine, TICKS), item.env or 0)
         except Failed:
             return None
         program = machine.programs[item.env or 0]
-        return json.loads(json.dumps(step_page.Data(recording, places_of(program), program, item.name).all()))
+        return json.loads(json.dumps(step_page.Data(steps, places_of(program), program, item.name).all()))
 
 
 def of_page(page: str, tried: List[Item]) -> List[Dict[str, Any]]:
