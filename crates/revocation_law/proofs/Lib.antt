@@ -1,0 +1,11 @@
+mod Plain
+mod Fixed
+mod Requests
+mod Changes
+mod Happening
+mod Serving
+mod Ticks
+mod Unasked
+mod Slow
+mod Relief
+mod Booting
