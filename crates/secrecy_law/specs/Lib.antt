@@ -1,0 +1,2 @@
+pub mod Secrecy
+pub mod Dead
