@@ -36,22 +36,27 @@ pub record IsAsImaged (image : ImageValue) (b : Book) : Type 0 where
   pub quantum : b.quantum ≡ image.quantum
   pub runner : b.runner ≡ None
   pub excess : b.excess ≡ (λ e. 0)
+  pub time : b.time ≡ 0
 
 all_kept_imaged : (image : ImageValue) (other : ℕ) (programs : List ProgramValue) (b : Book) → IsAsImaged image b → IsAsImaged image (with_all_kept other programs b)
 all_kept_imaged image other [] b is = is
-all_kept_imaged image other (p ∷ programs) b is = all_kept_imaged image (other + 1) programs (with_kept other p b) (record { quantum = is.quantum; runner = is.runner; excess = is.excess })
+all_kept_imaged image other (p ∷ programs) b is = all_kept_imaged image (other + 1) programs (with_kept other p b) (record { quantum = is.quantum; runner = is.runner; excess = is.excess; time = is.time })
 
 pub boot_imaged : (image : ImageValue) → IsAsImaged image (boot_world image).book
-boot_imaged image = all_kept_imaged image 0 image.programs (book_of_image image) (record { quantum = refl; runner = refl; excess = refl })
+boot_imaged image = all_kept_imaged image 0 image.programs (book_of_image image) (record { quantum = refl; runner = refl; excess = refl; time = refl })
 
 -- its Solo
 record_sees : (v : Version) (e : ℕ) (o : Option ProgramValue) (page : ℕ) → (absorb_all (absent e) (record_items v e o)).seen page ≡ None
 record_sees v e None page = refl
 record_sees v e (Some p) page = refl
 
+record_rings : (v : Version) (e : ℕ) (o : Option ProgramValue) → (absorb_all (absent e) (record_items v e o)).rings ≡ []
+record_rings v e None = refl
+record_rings v e (Some p) = refl
+
 pub boot_still : (image : ImageValue) (e : ℕ) → ((boot_world image).solos e).mask ≡ 0 → IsStill e (boot_world image)
 boot_still image e deaf = record {
   clear = all_kept_clear e 0 image.programs (book_of_image image) (record { owned = λ page. refl; bound = λ row. refl; claims = refl; lines = λ line. refl });
-  nothing = record { deaf = deaf; sees = record_sees image.version e (slice_get image.programs e) };
+  nothing = (let o = slice_get image.programs e in record { deaf = deaf; sees = record_sees image.version e o; rings = record_rings image.version e o });
   within = λ r is its. (let never : None ≡ Some r = sym (boot_imaged image).runner ∙ is in cc);
 }

@@ -1,14 +1,19 @@
-mod Booting
-mod Clear
-mod Early
-mod Nothing
-mod Others
+mod Beginnings
+pub mod Booting
+pub mod Clear
+mod Deciding
+pub mod Early
+pub mod Nothing
+pub mod Others
 mod Own
-mod Passing
+mod OwnItems
+pub mod Passing
 mod Reports
 mod Rest
 mod Same
 mod Slicing
-mod Ticks
+pub mod Ticks
 mod Timing
-mod Turning
+pub mod Turning
+mod TwoSystems
+mod Written

@@ -44,12 +44,12 @@ text_alone w e out none =
     ∙ ap (λ (pages : List ℕ). whole_text e (w.solos e) (rested (w.solos e).cpu) (w.book.excess e) pages) (no_pages e (w.solos e).seen none w.book.page_count)
 
 pub shown_alike : QuietHasOwnPagesAlone → QuietIsSame → QuietOwesSame → SlicesEndStopped → IsFoldOfFeed → QuietIsShownAlike
-shown_alike pages feeds owes stops fold left right e n t u both =
+shown_alike pages feeds owes stops fold left right e n t u both left_end right_end =
     let v = world_after left t in
     let w = world_after right u in
-    let same : v.solos e ≡ w.solos e = fold left t e ∙ ap (absorb_all (absent e)) (feeds left right e n t u both) ∙ sym (fold right u e) in
+    let same : v.solos e ≡ w.solos e = fold left t e ∙ ap (absorb_all (absent e)) (feeds left right e n t u both left_end right_end) ∙ sym (fold right u e) in
     let some : 0 < right.image.quantum = subst (λ q. 0 < q) both.quantum_same both.quantum_some in
-    text_alone v e (stops left e n t both.left_end) (pages left e t both.quantum_some both.left_quiet).sees_none
+    text_alone v e (stops left e n t left_end) (pages left e t both.quantum_some both.left_quiet).sees_none
     ∙ ap (λ (s : Solo). whole_text e s (rested s.cpu) (v.book.excess e) []) same
-    ∙ ap (λ (excess : ℕ). whole_text e (w.solos e) (rested (w.solos e).cpu) excess []) (owes left right e n t u both)
-    ∙ sym (text_alone w e (stops right e n u both.right_end) (pages right e u some both.right_quiet).sees_none)
+    ∙ ap (λ (excess : ℕ). whole_text e (w.solos e) (rested (w.solos e).cpu) excess []) (owes left right e n t u both left_end right_end)
+    ∙ sym (text_alone w e (stops right e n u right_end) (pages right e u some both.right_quiet).sees_none)

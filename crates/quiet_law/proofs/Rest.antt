@@ -13,9 +13,8 @@ use Rattle.world_model.specs.declared.verdict.Verdict.{Verdict}
 use Rattle.world_model.specs.Item.{Item, Answer, Step, absorb_all}
 use Rattle.world_model.specs.Step.{Act, Calls, Dies, act_of, step_alone}
 use Rattle.world_model.specs.Timer.{timer_at_end}
-use Rattle.world_model.specs.Verdict.{verdict_alone}
 use Rattle.world_model.specs.World.{World, Reply, after}
-use Rattle.quiet_law.specs.Alone.{Alone, after_act, after_timer, count_alone, stopped, tick_alone, ticks_alone, with_item}
+use Rattle.quiet_law.specs.Alone.{Alone, after_act, after_timer, answer_alone, count_alone, stopped, tick_alone, ticks_alone, with_item}
 
 -- the ticks left of the quantum in which the environment runs, and its phase
 abbrev pub left_of : ℕ → Option Runner → ℕ
@@ -156,14 +155,14 @@ answer_leaves : (answer : Option Verdict) (a : Alone) → Leaves a (option_map_o
 answer_leaves None a = Ends refl
 answer_leaves (Some v) a = Lasts refl refl refl
 
-act_leaves : (act : Act) (a : Alone) → Leaves a (after_act act a)
-act_leaves (Calls (Some call.Yield)) a = Ends refl
-act_leaves (Calls call) a = answer_leaves (verdict_alone a.solo call) a
-act_leaves (Dies cause) a = Ends refl
-act_leaves act a = Lasts refl refl refl
+act_leaves : (q : ℕ) (act : Act) (a : Alone) → Leaves a (after_act q act a)
+act_leaves q (Calls (Some call.Yield)) a = Ends refl
+act_leaves q (Calls call) a = answer_leaves (answer_alone q a call) a
+act_leaves q (Dies cause) a = Ends refl
+act_leaves q act a = Lasts refl refl refl
 
-act_falls : (q : ℕ) (act : Act) (a : Alone) → 0 < a.left → OwesWithin a.excess a.phase → Falls q a (count_alone q (after_act act a))
-act_falls q act a some owes = by_act (after_act act a) (act_leaves act a)
+act_falls : (q : ℕ) (act : Act) (a : Alone) → 0 < a.left → OwesWithin a.excess a.phase → Falls q a (count_alone q (after_act q act a))
+act_falls q act a some owes = by_act (after_act q act a) (act_leaves q act a)
   where
     by_act : (b : Alone) → Leaves a b → Falls q a (count_alone q b)
     by_act b (Ends none) = inl (ap (λ (c : Alone). c.left) (over_counts q b none) ∙ none)

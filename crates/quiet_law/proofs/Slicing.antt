@@ -20,12 +20,14 @@ use Rattle.world_model.specs.World.{World, in_turn, run_phases}
 use Rattle.run_model.specs.Acting.{Acts}
 use Rattle.run_model.specs.Boot.{boot_items, boot_world}
 use Rattle.run_model.specs.Excess.{IsAccounted}
-use Rattle.run_model.specs.Run.{IsFoldOfFeed, System, after_phase, feed, happens_in, items_in, next_phases, once_happened, takings_next, world_after}
+use Rattle.run_model.specs.Run.{IsFoldOfFeed, System, TimeIsTick, after_phase, feed, happens_in, items_in, next_phases, once_happened, takings_next, world_after}
 use Rattle.run_model.proofs.Balance.{boots_accounted, ticks_keep_accounts}
 use Rattle.run_model.proofs.Phases.{moments_in_order}
 use Rattle.quiet_law.specs.Alone.{Alone, is_quiet_call, quiet_course, quiet_slice}
-use Rattle.quiet_law.specs.Quiet.{IsQuiet}
+use Rattle.quiet_law.specs.Beginning.{IsBeginning}
+use Rattle.quiet_law.specs.Quiet.{IsQuiet, is_asking}
 use Rattle.run_model.specs.Slices.{IsEndOf, SlicesEndLast, SlicesEndStopped, begins_in, begins_slice, ends_in, runs_after, slices}
+use Rattle.quiet_law.proofs.Beginnings.{begins_more, begins_same}
 use Rattle.quiet_law.proofs.Booting.{boot_imaged, boot_still}
 use Rattle.quiet_law.proofs.Rest.{alone_in, end_over, left_of, phase_of, same_alone}
 use Rattle.quiet_law.proofs.Ticks.{Begins, GoesOn, IsStill, Out, Tells, Told, rest_at, tick_tells}
@@ -51,7 +53,7 @@ rest_out e q w items out = end_over q (alone_in e w items) (left_out e w.book.ru
 abbrev free : Alone → Alone
 free a = record a { excess = 0 }
 
-module _ (granted : GrantedMay) (again : AgainAsks) (rich : RichestHasMost) (takable : TakingsAreTakable) (system : System) (e most : ℕ) (some : 0 < system.image.quantum) (quiet : IsQuiet system e most) where
+module _ (granted : GrantedMay) (again : AgainAsks) (rich : RichestHasMost) (takable : TakingsAreTakable) (time : TimeIsTick) (system : System) (e most : ℕ) (some : 0 < system.image.quantum) (quiet : IsQuiet system e most) where
   abbrev q : ℕ
   q = system.image.quantum
 
@@ -70,6 +72,11 @@ module _ (granted : GrantedMay) (again : AgainAsks) (rich : RichestHasMost) (tak
       subst (λ (x : World). (c : Option Call) → Acts x e (Calls c) → is_quiet_call (x.solos e).cpu c ≡ true)
       (order.turned ∙ ap (after_phase turn) (order.served ∙ ap served order.happened)) (λ c acts. quiet.calls t c below acts)
 
+  -- and it isn't asked for pages
+  unasked_now : (t : ℕ) → t < most → is_idle_book (world_after system t).book ≡ false → list_any (is_asking e) (happens_in system.schedule (world_after system t)) ≡ false
+  unasked_now t below busy =
+      subst (λ (u : ℕ). list_any (is_asking e) (system.schedule u) ≡ false) (sym (time system.schedule (boot_world system.image) t (boot_imaged system.image).time busy)) (quiet.unasked t below)
+
   tick_told : (t : ℕ) → t < most → IsReady t → Tells e (world_after system t) (world_after system (suc t)) (items_in system t e)
   tick_told t below ready = by_idle (is_idle_book (world_after system t).book) refl
     where
@@ -83,7 +90,7 @@ module _ (granted : GrantedMay) (again : AgainAsks) (rich : RichestHasMost) (tak
           let x = world_after system t in
           let v = once_happened system.schedule x in
           tick_tells granted again rich e x ready.still (accounted t) (subst (λ n. 0 < n) (sym ready.quantum) some)
-          (happens_in system.schedule x) (quiet.unasked x.book.time) (takings_next system.schedule x) (takable (revocations v.book) v.book.time v.count) (quiet_now t below)
+          (happens_in system.schedule x) (unasked_now t below busy) (takings_next system.schedule x) (takable (revocations v.book) v.book.time v.count) (quiet_now t below)
 
   pub ready : (t : ℕ) → t ≤ most → IsReady t
   ready zero below = record { still = boot_still system.image e quiet.accepts_nobody; quantum = (boot_imaged system.image).quantum }
@@ -105,24 +112,36 @@ module _ (granted : GrantedMay) (again : AgainAsks) (rich : RichestHasMost) (tak
   pub record IsAlone (t : ℕ) : Type 0 where
     pub runs : runs_after system e t ≡ true → so_far t ≡ course (suc (slices system e t))
     pub waits : runs_after system e t ≡ false → free (here t) ≡ free (course (slices system e t))
+    pub since : IsBeginning (course (slices system e t)).items (feed system e t)
+
+  -- so it has its whole slices where it doesn't run
+  since_waits : (t : ℕ) → free (here t) ≡ free (course (slices system e t)) → IsBeginning (course (slices system e t)).items (feed system e t)
+  since_waits t is = begins_same (course (slices system e t)).items (feed system e t) (ap (λ (a : Alone). a.items) (sym is))
 
   -- behind a tick in which it runs, or in which its slice begins
   one_more : (n : ℕ) → n + 1 ≡ suc n
   one_more n = omega arith
 
-  goes_on : (t : ℕ) → (runs_after system e t || begins_in system e t) ≡ true → so_far (suc t) ≡ course (suc (slices system e t)) → IsAlone (suc t)
-  goes_on t in_slice is = record {
-    runs = λ on. is ∙ ap (λ n. course (suc n)) (sym (counted true false on (ap (λ (own : Bool). own && not true) in_slice) ∙ nothing_more));
-    waits = λ off.
-        ap free (sym (rest_out e q (world_after system (suc t)) (feed system e (suc t)) off) ∙ is)
-        ∙ ap (λ n. free (course n)) (sym (counted false true off (ap (λ (own : Bool). own && not false) in_slice) ∙ one_more (slices system e t)));
-  }
-    where
-      nothing_more : slices system e t + 0 ≡ slices system e t
-      nothing_more = omega arith
+  nothing_more : (n : ℕ) → n + 0 ≡ n
+  nothing_more n = omega arith
 
+  goes_on : (t : ℕ) → IsAlone t → (runs_after system e t || begins_in system e t) ≡ true → so_far (suc t) ≡ course (suc (slices system e t)) → IsAlone (suc t)
+  goes_on t before in_slice is = record { runs = λ on. is ∙ ap (λ n. course (suc n)) (sym (same on)); waits = at_end; since = by_runs (runs_after system e (suc t)) refl }
+    where
       counted : (runs ends : Bool) → runs_after system e (suc t) ≡ runs → ((runs_after system e t || begins_in system e t) && not runs) ≡ ends → slices system e (suc t) ≡ slices system e t + (if ends then 1 else 0)
       counted runs ends is ended = ap (λ (r : Bool). slices system e t + (if (runs_after system e t || begins_in system e t) && not r then 1 else 0)) is ∙ ap (λ (b : Bool). slices system e t + (if b then 1 else 0)) ended
+
+      same : runs_after system e (suc t) ≡ true → slices system e (suc t) ≡ slices system e t
+      same on = counted true false on (ap (λ (own : Bool). own && not true) in_slice) ∙ nothing_more (slices system e t)
+
+      at_end : runs_after system e (suc t) ≡ false → free (here (suc t)) ≡ free (course (slices system e (suc t)))
+      at_end off =
+          ap free (sym (rest_out e q (world_after system (suc t)) (feed system e (suc t)) off) ∙ is)
+          ∙ ap (λ n. free (course n)) (sym (counted false true off (ap (λ (own : Bool). own && not false) in_slice) ∙ one_more (slices system e t)))
+
+      by_runs : (runs : Bool) → runs_after system e (suc t) ≡ runs → IsBeginning (course (slices system e (suc t))).items (feed system e (suc t))
+      by_runs true on = subst (λ n. IsBeginning (course n).items (feed system e (suc t))) (sym (same on)) (begins_more (course (slices system e t)).items (feed system e t) before.since (items_in system t e))
+      by_runs false off = since_waits (suc t) (at_end off)
 
   module _ (fold : IsFoldOfFeed) where
     in_slice : (t : ℕ) → t < most → IsAlone t → (runs_after system e t || begins_in system e t) ≡ true → so_far (suc t) ≡ course (suc (slices system e t))
@@ -153,10 +172,8 @@ module _ (granted : GrantedMay) (again : AgainAsks) (rich : RichestHasMost) (tak
         let stays : free (here (suc t)) ≡ free (here t) =
         same_alone (free (here (suc t))) (free (here t)) items (fold system (suc t) e ∙ ap (absorb_all (absent e)) items ∙ sym (fold system t e))
         (left_out e v.book.runner out ∙ sym (left_out e w.book.runner parts.0)) (phase_out e v.book.runner out ∙ sym (phase_out e w.book.runner parts.0)) refl in
-        record {
-          runs = λ on. (let clash : true ≡ false = sym on ∙ out in cc);
-          waits = λ off. stays ∙ alone.waits parts.0 ∙ ap (λ n. free (course n)) (sym same);
-        }
+        let still : free (here (suc t)) ≡ free (course (slices system e (suc t))) = stays ∙ alone.waits parts.0 ∙ ap (λ n. free (course n)) (sym same) in
+        record { runs = λ on. (let clash : true ≡ false = sym on ∙ out in cc); waits = λ off. still; since = since_waits (suc t) still }
 
     module _ (t : ℕ) (few : t < most) (before : IsAlone t) where
       by_told : (runs_after system e t || begins_in system e t) ≡ false → Told e (world_after system t) (world_after system (suc t)) (items_in system t e) → IsAlone (suc t)
@@ -165,7 +182,7 @@ module _ (granted : GrantedMay) (again : AgainAsks) (rich : RichestHasMost) (tak
       by_told idle (Out other none out) = waits_on t idle none out before
 
       by_active : (active : Bool) → (runs_after system e t || begins_in system e t) ≡ active → IsAlone (suc t)
-      by_active true active = goes_on t active (in_slice t few before active)
+      by_active true active = goes_on t before active (in_slice t few before active)
       by_active false idle = by_told idle (tick_told t few (ready t (omega (arith, few)))).told
 
     at_boot : (excess : ℕ → ℕ) → excess ≡ (λ i. 0) → record (here 0) { excess = excess e } ≡ course 0
@@ -177,6 +194,7 @@ module _ (granted : GrantedMay) (again : AgainAsks) (rich : RichestHasMost) (tak
     alone zero below = record {
       runs = λ on. (let clash : true ≡ false = sym on ∙ ap (is_runner e) (boot_imaged system.image).runner in cc);
       waits = λ off. at_boot (λ i. 0) refl;
+      since = since_waits 0 (at_boot (λ i. 0) refl);
     }
     alone (suc t) below = by_active t (omega (arith, below)) (alone t (omega (arith, below))) (runs_after system e t || begins_in system e t) refl
 

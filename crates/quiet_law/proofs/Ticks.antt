@@ -286,11 +286,11 @@ module _ (granted : GrantedMay) (again : AgainAsks) (rich : RichestHasMost) (e :
   turn_tells = by_turn (turn_told e w still.clear accounted.slots_live w.book.runner refl)
 
 -- Before the turn the accounts stay in order.
-events_account : (happens : List Occurrence) (w : World) → IsAccounted w → IsAccounted (run_phases w (map happen happens))
+pub events_account : (happens : List Occurrence) (w : World) → IsAccounted w → IsAccounted (run_phases w (map happen happens))
 events_account [] w good = good
 events_account (what ∷ happens) w good = events_account happens (after w (happen what w)) (happen_accounts what w good)
 
-takings_account : (xs : List Taking) (w : World) → IsAccounted w → IsAccounted (run_phases w (map takes xs ++ settles ∷ []))
+pub takings_account : (xs : List Taking) (w : World) → IsAccounted w → IsAccounted (run_phases w (map takes xs ++ settles ∷ []))
 takings_account [] w good = still_accounts w (settles w) good refl tt (λ i. keep_none)
 takings_account (x ∷ xs) w good = takings_account xs (after w (takes x w)) (taking_accounts x w good)
 

@@ -18,13 +18,13 @@ is_asking e (outside.Packet packet) = false
 is_asking e (outside.Line line) = false
 is_asking e (outside.Revoke env count grace) = env == e
 
--- In the ticks below t all calls of the environment are quiet; it accepts nobody at boot; and no revocation of the
--- schedule names it.
+-- In the ticks below t all calls of the environment are quiet, and no revocation of the schedule names it; and it
+-- accepts nobody at boot.
 pub record IsQuiet (system : System) (e t : ℕ) : Type 0 where
   pub calls : (u : ℕ) (call : Option Call) → u < t → Acts (at_step system u) e (Calls call)
       → is_quiet_call ((at_step system u).solos e).cpu call ≡ true
   pub accepts_nobody : ((boot_world system.image).solos e).mask ≡ 0
-  pub unasked : (tick : ℕ) → list_any (is_asking e) (system.schedule tick) ≡ false
+  pub unasked : (u : ℕ) → u < t → list_any (is_asking e) (system.schedule u) ≡ false
 
 -- So it accepts nobody after them, and has no page but its guaranteed ones.
 pub record HasOwnPagesAlone (system : System) (e t : ℕ) : Type 0 where
@@ -47,21 +47,21 @@ abbrev pub QuietOwesAlone : Type 0
 QuietOwesAlone = (system : System) (e n t : ℕ) → 0 < system.image.quantum → IsQuiet system e t → IsEndOf system e n t
     → (world_after system t).book.excess e ≡ quiet_excess e (boot_items system.image e) system.image.quantum n
 
--- In each of two systems so many ticks end the slice n of an environment that is quiet in them, is given the same at
--- boot, and has one quantum.
-pub record IsQuietInBoth (left right : System) (e n t u : ℕ) : Type 0 where
+-- In each of two systems an environment is quiet in so many ticks, and it is given the same at boot, and has one
+-- quantum.
+pub record IsQuietInBoth (left right : System) (e t u : ℕ) : Type 0 where
   pub record_same : boot_items left.image e ≡ boot_items right.image e
   pub quantum_same : left.image.quantum ≡ right.image.quantum
   pub quantum_some : 0 < left.image.quantum
   pub left_quiet : IsQuiet left e t
   pub right_quiet : IsQuiet right e u
-  pub left_end : IsEndOf left e n t
-  pub right_end : IsEndOf right e n u
 
--- Then its feeds up to there are the same, whatever else the systems are.
+-- Where these end its slice n, its feeds up to there are the same, whatever else the systems are.
 abbrev pub QuietIsSame : Type 0
-QuietIsSame = (left right : System) (e n t u : ℕ) → IsQuietInBoth left right e n t u → feed left e t ≡ feed right e u
+QuietIsSame = (left right : System) (e n t u : ℕ) → IsQuietInBoth left right e t u
+    → IsEndOf left e n t → IsEndOf right e n u → feed left e t ≡ feed right e u
 
 abbrev pub QuietOwesSame : Type 0
-QuietOwesSame = (left right : System) (e n t u : ℕ) → IsQuietInBoth left right e n t u
+QuietOwesSame = (left right : System) (e n t u : ℕ) → IsQuietInBoth left right e t u
+    → IsEndOf left e n t → IsEndOf right e n u
     → (world_after left t).book.excess e ≡ (world_after right u).book.excess e
