@@ -1,0 +1,5 @@
+mod Alike
+mod Ends
+mod Firsts
+mod Quiet
+mod Texts
