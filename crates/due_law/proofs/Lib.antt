@@ -1,0 +1,12 @@
+mod Bared
+mod Dues
+mod Early
+mod Others
+mod Own
+mod Plain
+mod Private
+mod Steps
+mod Ticks
+mod Timing
+mod Told
+mod Turning

@@ -1,0 +1,6 @@
+-- The law is the lemma.
+use Rattle.due_law.proofs.Private.{private_is_told}
+use Rattle.due_law.proofs.laws.law_private_is_told.Goals as goal
+
+pub returns : goal.returns
+returns c = private_is_told c.law_feed_is_due.ensures

@@ -1,0 +1,4 @@
+pub mod Standing
+pub mod Due
+pub mod Private
+pub mod Bare
