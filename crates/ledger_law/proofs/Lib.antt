@@ -1,11 +1,12 @@
-mod Told
-mod Mute
-mod Events
+pub mod Told
+pub mod Mute
+pub mod Events
 mod Turning
 mod Releasing
-mod Stepping
+pub mod Stepping
 mod Timing
-mod Ticks
-mod Booting
+pub mod Ticks
+pub mod Booting
 mod Ending
 mod Cleanness
+pub mod Tells

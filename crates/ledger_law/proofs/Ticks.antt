@@ -144,7 +144,7 @@ taken_runs q w told is_told accounted nobody ends (Some t) is some goes =
     below : t.slot < w.book.slot_count → told.cursor < w.book.slot_count
     below there = omega (arith, ends.place t is)
 
-turn_runs : NextIs → TurnsGoByRule → (q : ℕ) (w : World) → Ready q w → (o : Option Runner) → w.book.runner ≡ o → Runs q (after w (turn_when w o))
+pub turn_runs : NextIs → TurnsGoByRule → (q : ℕ) (w : World) → Ready q w → (o : Option Runner) → w.book.runner ≡ o → Runs q (after w (turn_when w o))
 turn_runs next goes q w ready (Some r) is =
     record { told = told_to q 0 0 0 0 w (after w (no_change w)) [] ready.told refl refl (λ end later ends from. refl) (λ later from. from) ready.told.says ready.told.bound ready.told.spares; who = r; is = is }
 turn_runs next goes q w ready None is =
@@ -158,7 +158,7 @@ turn_runs next goes q w ready None is =
     (goes b ready.told.bound.within)
 
 -- A tick.
-sooner : (q : ℕ) (w : World) → IsTold q 0 0 0 w → IsTold q 0 0 1 w
+pub sooner : (q : ℕ) (w : World) → IsTold q 0 0 0 w → IsTold q 0 0 1 w
 sooner q w told = record { says = told.says; bound = told.bound; spares = told.spares; fits = λ end later ends from. told.fits end later (omega arith) from }
 
 abbrev pub behind : List (World → Reply)

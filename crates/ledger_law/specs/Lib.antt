@@ -1,1 +1,2 @@
 pub mod LedgerLaw
+pub mod Telling

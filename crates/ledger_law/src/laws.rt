@@ -1,5 +1,6 @@
 //! The law of the ledger.
 ghost use Rattle.ledger_law.specs.LedgerLaw.{EndFits, RowsFit, RunsAreClean};
+ghost use Rattle.ledger_law.specs.Telling.{LedgerTells};
 
 use call_verdicts::law_granted;
 use ledger_audit::law_audit;
@@ -20,6 +21,16 @@ pub fn law_ledger_end()
     ensures { EndFits }
 {
     law_time();
+    law_granted();
+    law_next_turn();
+    law_turn();
+}
+
+/// The state of the rules after the rows of a run is the world's: whose the slots are, who runs, where, in which phase and
+/// until when, and what whoever lives owes.
+pub fn law_ledger_tells()
+    ensures { LedgerTells }
+{
     law_granted();
     law_next_turn();
     law_turn();

@@ -1,0 +1,5 @@
+mod Ages
+mod Shape
+mod Telling
+mod Naming
+mod Turns

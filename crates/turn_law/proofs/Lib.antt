@@ -1,0 +1,7 @@
+mod Amounts
+mod Distance
+pub mod Rules
+mod Keeping
+mod Lateness
+pub mod Walking
+pub mod Coming
