@@ -8,24 +8,24 @@ mod Sound
 mod Owning
 mod Brings
 mod Calling
-mod Turning
+pub mod Turning
 mod Lists
 mod Claimed
 mod Claiming
 mod Contexts
 mod Counting
-mod Happening
-mod Listing
+pub mod Happening
+pub mod Listing
 mod Handling
 mod Delivering
-mod Moments
+pub mod Moments
 mod Stepping
 mod Timing
 mod Backups
 mod Repossessing
-mod Agreeing
+pub mod Agreeing
 mod Later
-mod Absent
+pub mod Absent
 mod SameVersion
 mod Live
 mod Leaving

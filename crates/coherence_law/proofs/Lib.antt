@@ -1,0 +1,9 @@
+mod Counting
+mod Shape
+mod Accesses
+mod Leading
+mod Leaving
+mod Ticking
+mod Trying
+mod Storing
+mod Solving

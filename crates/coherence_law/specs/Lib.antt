@@ -1,0 +1,3 @@
+pub mod Coherence
+pub mod Counts
+pub mod Solo
