@@ -1,0 +1,4 @@
+mod Confining
+mod Entering
+mod Ticking
+mod Seeing

@@ -1,0 +1,4 @@
+pub mod Confined
+pub mod Entered
+pub mod Ticks
+pub mod Seen
