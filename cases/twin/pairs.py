@@ -67,9 +67,10 @@ class Quiet(Guest):
         else:
             self.call(CONTEXT, kind, 0)
 
-    BLOCKS = ((ask, 1), (hear, 1), (delay_slot, 3), (Program.unbind, 2), (Program.give_up, 6), (Program.put, 3), (Program.other_calls, 1),
-              (Program.accesses, 6), (Program.fill, 2), (Program.arithmetic, 5), (Program.fault, 2), (Program.wait, 3), (Guest.send, 4), (Guest.flood, 0.3),
-              (Guest.look, 4), (Guest.drain, 2), (Guest.count_anew, 1))
+    BLOCKS: Tuple[Tuple[Callable[..., None], float], ...] = (
+        (ask, 1), (hear, 1), (delay_slot, 3), (Program.unbind, 2), (Program.give_up, 6), (Program.put, 3), (Program.other_calls, 1),
+        (Program.accesses, 6), (Program.fill, 2), (Program.arithmetic, 5), (Program.fault, 2), (Program.wait, 3), (Guest.send, 4), (Guest.flood, 0.3),
+        (Guest.look, 4), (Guest.drain, 2), (Guest.count_anew, 1))
 
     def handler_of_exceptions(self) -> None:
         """Passes over the instruction."""

@@ -1,0 +1,2 @@
+# Dies in its first tick.
+start:  break

@@ -1,0 +1,3 @@
+# Calls for nothing.
+start:  b    start
+        nop
