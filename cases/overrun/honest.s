@@ -1,0 +1,3 @@
+# Calls nothing.
+start:  b    start
+        nop
