@@ -45,7 +45,7 @@ class Turns(Auditor):
             return self.boot[place:place + 1] == [self.rows[place]]
         if name in GIFTS:  # the tick counts: what is given in the last one is over in it, and what is given in another isn't
             to, behind = numbers_behind[-1], place + (name == "sync")
-            return to < self.count and to not in self.dead and (self.next_time(behind) == time) == (time == self.limit())
+            return to < self.count and (self.next_time(behind) == time) == (time == self.limit())
         return name != "over" or numbers_behind[-1] == MOST_EXCESS or self.next_time(place) != time
 
     def is_end(self) -> bool:
