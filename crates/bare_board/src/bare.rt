@@ -56,7 +56,7 @@ fn run_text(alloc: Global, file: &[u8], ticks: u32, period: u32) -> Result<Vec<u
 }
 
 /// The text of a run of a flat file in kernel mode, of at most so many ticks, with an interrupt at each multiple of the
-/// period, or none with a period of 0 (`docs/REPORT.md`, "The bare board").
+/// period, or none with a period of 0 (`docs/BARE.md`, "Ticks").
 pub fn bare_text(
     alloc: Global,
     file: &[u8],

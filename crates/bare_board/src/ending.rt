@@ -1,6 +1,6 @@
 //! How a run of the bare board ends.
 
-/// How a run ended (`docs/REPORT.md`, "The bare board").
+/// How a run ended (`docs/BARE.md`, "What is written").
 #[derive(Clone, Copy)]
 pub enum BareEnd {
     /// At a BREAK in kernel mode.

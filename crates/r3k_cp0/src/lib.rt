@@ -2,6 +2,7 @@
 //! written by (`docs/MACHINE.md`, "Coprocessor 0").
 #![tactic(auto)]
 
+mod fields;
 mod random;
 mod registers;
 mod vector;

@@ -3,6 +3,7 @@ ghost use Rattle.std.specs.Prelude.{◌≡◌, ◌<◌, ◌^◌, IfSome};
 ghost use Rattle.r3k_cp0.specs.Registers.{blank_cp0, cp0_reg, current_pid, index_row, is_user, probe_word, takes_interrupts, with_cp0_reg, with_pid};
 ghost use Rattle.r3k_cp0.specs.Enter.{context_at, entered, entry_hi_at, left};
 
+use crate::fields::*;
 use crate::random::Random;
 use mips_exec::{Cpu, Exc, ExcCode, cause_word, restart};
 
@@ -54,16 +55,16 @@ impl Cp0 {
         ensures { result ≡ cp0_reg self.now n }
     {
         match n {
-            0 => self.index,
-            1 => u32::from(self.random.row()) << 8,
-            2 => self.entry_lo,
-            4 => self.context,
-            8 => self.bad_vaddr,
-            10 => self.entry_hi,
-            12 => self.status,
-            13 => self.cause,
-            14 => self.epc,
-            15 => 0x200,
+            INDEX => self.index,
+            RANDOM => u32::from(self.random.row()) * ROW_UNIT,
+            ENTRY_LO => self.entry_lo,
+            CONTEXT => self.context,
+            BAD_VADDR => self.bad_vaddr,
+            ENTRY_HI => self.entry_hi,
+            STATUS => self.status,
+            CAUSE => self.cause,
+            EPC => self.epc,
+            PRID => PROCESSOR,
             _ => 0,
         }
     }
@@ -73,12 +74,14 @@ impl Cp0 {
         ensures { self.new ≡ with_cp0_reg self.old n value }
     {
         match n {
-            0 => self.index = value / 0x100 % 0x40 * 0x100,
-            2 => self.entry_lo = value / 0x100 * 0x100,
-            4 => self.context = value / 0x20_0000 * 0x20_0000 + self.context % 0x20_0000,
-            10 => self.entry_hi = value / 0x40 * 0x40,
-            12 => self.status = value / 0x100 % 0x100 * 0x100 + value % 0x40,
-            14 => self.epc = value,
+            INDEX => self.index = value / ROW_UNIT % ROWS * ROW_UNIT,
+            ENTRY_LO => self.entry_lo = value / ENTRY_LO_UNIT * ENTRY_LO_UNIT,
+            CONTEXT => self.context = value / BASE_UNIT * BASE_UNIT + self.context % BASE_UNIT,
+            ENTRY_HI => self.entry_hi = value / PID_UNIT * PID_UNIT,
+            STATUS => {
+                self.status = value / MASK_UNIT % MASKS * MASK_UNIT + value % MODE_PAIRS;
+            }
+            EPC => self.epc = value,
             _ => (),
         }
     }
@@ -89,7 +92,7 @@ impl Cp0 {
         ensures pid { result ≡ current_pid self.now }
         ensures within { result < 2 ^ 6 }
     {
-        (self.entry_hi / 0x40 % 0x40) as u8
+        (self.entry_hi / PID_UNIT % PIDS) as u8
     }
 
     /// Another process runs, below 64.
@@ -97,7 +100,7 @@ impl Cp0 {
         requires { pid < 2 ^ 6 }
         ensures { self.new ≡ with_pid self.old pid }
     {
-        self.entry_hi = self.entry_hi / 0x1000 * 0x1000 + u32::from(pid) * 0x40;
+        self.entry_hi = self.entry_hi / VPN_UNIT * VPN_UNIT + u32::from(pid) * PID_UNIT;
     }
 
     /// Whether the processor is in user mode.
@@ -105,14 +108,14 @@ impl Cp0 {
     pub fn is_user(&self) -> bool
         ensures { result ≡ is_user self.now }
     {
-        self.status / 2 % 2 == 1
+        self.status / USER_UNIT % 2 == 1
     }
 
     /// Whether an interrupt is taken.
     pub fn takes_interrupts(&self) -> bool
         ensures { result ≡ takes_interrupts self.now }
     {
-        self.status % 2 == 1 && self.status / 0x8000 % 2 == 1
+        self.status % 2 == 1 && self.status / TIMER_UNIT % 2 == 1
     }
 
     /// The row that Index names, below 64.
@@ -120,7 +123,7 @@ impl Cp0 {
         ensures row { result ≡ index_row self.now }
         ensures within { result < 2 ^ 6 }
     {
-        (self.index / 0x100 % 0x40) as u8
+        (self.index / ROW_UNIT % ROWS) as u8
     }
 
     /// Index takes what a probe found: a row, below 64, or none.
@@ -129,8 +132,8 @@ impl Cp0 {
         ensures { self.new ≡ record self.old { index = probe_word found } }
     {
         self.index = match found {
-            Some(row) => u32::from(row) * 0x100,
-            None => 0x8000_0000,
+            Some(row) => u32::from(row) * ROW_UNIT,
+            None => NO_ROW,
         };
     }
 
@@ -139,7 +142,8 @@ impl Cp0 {
     pub fn enter(&mut self, exc: &Exc, cpu: &Cpu)
         ensures { self.new ≡ entered exc.now cpu.now self.old }
     {
-        self.status = self.status / 0x40 * 0x40 + self.status % 0x10 * 4;
+        let older = self.status / MODE_PAIRS * MODE_PAIRS;
+        self.status = older + self.status % TWO_MODE_PAIRS * MODE_PAIR;
         self.cause = cause_word(exc, cpu.slot);
         self.epc = restart(cpu);
         match exc.code {
@@ -156,15 +160,17 @@ impl Cp0 {
     pub fn rfe(&mut self)
         ensures { self.new ≡ left self.old }
     {
-        self.status = self.status / 0x10 * 0x10 + self.status / 4 % 0x10;
+        let oldest = self.status / TWO_MODE_PAIRS * TWO_MODE_PAIRS;
+        self.status = oldest + self.status / MODE_PAIR % TWO_MODE_PAIRS;
     }
 
     /// EntryHi and Context have the virtual page of this address.
     fn translate_at(&mut self, bad: u32)
         ensures { self.new ≡ record self.old { entry_hi = entry_hi_at self.old.entry_hi bad; context = context_at self.old.context bad } }
     {
-        self.entry_hi = bad / 0x1000 * 0x1000 + self.entry_hi % 0x1000;
-        let upper = self.context / 0x20_0000 * 0x20_0000;
-        self.context = upper + bad / 0x1000 % 0x8_0000 * 4 + self.context % 4;
+        self.entry_hi = bad / VPN_UNIT * VPN_UNIT + self.entry_hi % VPN_UNIT;
+        let base = self.context / BASE_UNIT * BASE_UNIT;
+        let bad_page = bad / VPN_UNIT % BAD_PAGES * BAD_PAGE_UNIT;
+        self.context = base + bad_page + self.context % BAD_PAGE_UNIT;
     }
 }

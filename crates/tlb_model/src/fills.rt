@@ -3,7 +3,7 @@ ghost use Rattle.std.specs.Prelude.{◌≡◌};
 ghost use Rattle.tlb_model.specs.Cache.{no_fills, with_forward, with_refill};
 
 /// How many rows of the TLB were refilled for an environment, and how many of its misses it got as exceptions, each modulo
-/// 2^32 (`docs/MACHINE.md`, "TLB").
+/// 2^32 (`docs/MACHINE.md`, "The TLB under the kernel").
 #[derive(Clone, Copy)]
 pub struct Fills {
     /// Rows that were refilled from its guaranteed mappings.
