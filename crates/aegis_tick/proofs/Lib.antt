@@ -4,5 +4,6 @@ mod Coming
 mod Happening
 mod OnCourse
 mod Refusals
+mod Rows
 mod Booted
 mod Programs

@@ -1,5 +1,5 @@
 -- A run on its course, between two ticks and in the middle of one.
-use Rattle.std.specs.Prelude.{◌≡◌, ◌≤◌, ◌+◌, ◌-◌, ◌*◌, ℕ, false, min, IfSome, None}
+use Rattle.std.specs.Prelude.{◌≡◌, ◌≤◌, ◌+◌, ◌-◌, ◌*◌, ℕ, length, false, min, IfSome, None, Result}
 use Rattle.aegis_limits.specs.Limits.{most_ticks}
 use Rattle.world_model.specs.Book.{is_idle_book}
 use Rattle.world_model.specs.Event.{schedule_of}
@@ -10,10 +10,10 @@ use Rattle.board_model.specs.Shown.{Shown}
 use Rattle.board_model.specs.Showing.{world_of}
 use Rattle.aegis_calls.specs.Cached.{GoesAsFar}
 use Rattle.aegis_calls.specs.Entering.{IsEntering}
-use Rattle.aegis_calls.specs.Rows.{step_rows}
+use Rattle.aegis_calls.specs.Rows.{step_rows, tick_rows}
 use Rattle.aegis_tick.specs.declared.course.Course.{Course}
 use Rattle.aegis_tick.specs.Agenda.{AreComing, next_time_of}
-use Rattle.aegis_tick.specs.Course.{HappenedInPart}
+use Rattle.aegis_tick.specs.Course.{HappenedInPart, IsSure, most_long_rows}
 use Rattle.aegis_tick.specs.Halves.{MayFinish, mid}
 
 -- what a run goes by
@@ -48,6 +48,23 @@ IsStoppedInTick old new =
 abbrev pub GlidesAsFar : Course → Course → ℕ → ℕ → Type 0
 GlidesAsFar old new most made =
     GoesAsFar old.board new.board (min most (next_time_of old.agenda - old.board.time)) made
+
+-- Where the rows of its events and of the tick are spare, a tick isn't refused, and no more of these rows are taken.
+abbrev pub IsSureOfTick : {T E : Type 0} → Course → Result T E → Course → Type 0
+IsSureOfTick old result new =
+    IsSure (length old.agenda - length new.agenda + 1) result old.board.ledger.spare new.board.ledger.spare
+
+-- Of the spare rows no more were taken than `tick_rows` for each event that happened and for each tick that was made.
+unfoldable pub TookFewRows : Course → Course → Type 0
+TookFewRows old new =
+    old.board.ledger.spare + tick_rows * (length new.agenda + old.board.time)
+    ≤ new.board.ledger.spare + tick_rows * (length old.agenda + new.board.time)
+
+-- A run has the rows for all ticks up to a limit: they are spare for each event that is to come and for each tick, and the
+-- ledger then has no more rows than that of a long run may have.
+pub record HasRowsUpTo (c : Course) (ticks : ℕ) : Type 0 where
+  pub spare : tick_rows * (length c.agenda + (ticks - c.board.time)) ≤ c.board.ledger.spare
+  pub few : length (world_after (system_of c) ticks).rows ≤ most_long_rows
 
 -- A run is in the middle of a tick: what happens in it has happened, and the runner's step is to come.
 pub record IsMidway (c : Course) : Type 0 where

@@ -15,7 +15,7 @@ ghost use Rattle.run_model.specs.Run.{end_of_run, happens_in, world_after};
 ghost use Rattle.tlb_course.specs.Course.{cache_after};
 ghost use Rattle.aegis_tick.specs.Agenda.{AreComing, occurrences};
 ghost use Rattle.aegis_tick.specs.Halves.{second_half};
-ghost use Rattle.aegis_tick.specs.Course.{IsCutOff, IsCutShort, IsSure};
+ghost use Rattle.aegis_tick.specs.Course.{IsCutOff, IsCutShort};
 
 use crate::agenda::Agenda;
 use crate::booting::boot;
@@ -67,7 +67,7 @@ pub fn end_of_run(board: &Board, ticks: u32) -> RunEnd
 }
 
 impl<'i, 'b, 'e> Course<'i, 'b, 'e> {
-    ghost use Rattle.aegis_tick.specs.OnCourse.{GlidesAsFar, IsCached, IsMidway, IsOn, IsStoppedInTick, system_of};
+    ghost use Rattle.aegis_tick.specs.OnCourse.{GlidesAsFar, HasRowsUpTo, IsCached, IsMidway, IsOn, IsStoppedInTick, IsSureOfTick, TookFewRows, system_of};
 
     /// The run that an image and a schedule boot (`docs/KERNEL.md`, "Boot"). No tick is made yet, and nobody owes anything.
     pub fn boot(
@@ -121,7 +121,7 @@ impl<'i, 'b, 'e> Course<'i, 'b, 'e> {
         ensures part { OnErr result (IsStoppedInTick self.old self.new) }
         ensures early { OnErr result (IsSameTick self.old.board self.new.board × (self.new.board.tlb ≡ self.old.board.tlb)) }
         ensures fewer { length self.new.agenda ≤ length self.old.agenda }
-        ensures sure { IsSure (length self.old.agenda - length self.new.agenda + 1) result self.old.board.ledger.spare self.new.board.ledger.spare }
+        ensures sure { IsSureOfTick self.old result self.new }
     {
         law_agenda();
         let entry = self.entry;
@@ -210,6 +210,7 @@ impl<'i, 'b, 'e> Course<'i, 'b, 'e> {
         ensures cut_tlb { OnErr result (self.new.board.tlb ≡ cache_after (system_of self.old) self.new.board.time) }
         ensures balance { IsAccounted (boot_world self.old.image.now) → IsAccounted (world_of self.new.board) }
         ensures sure { TICK_ROWS * (length self.old.agenda + (ticks - self.old.board.time)) ≤ self.old.board.ledger.spare → IsOk result }
+        ensures took { OnOk result (TookFewRows self.old self.new) }
     {
         law_accounts();
         law_idle();
@@ -221,8 +222,30 @@ impl<'i, 'b, 'e> Course<'i, 'b, 'e> {
         Ok(end_of_run(&self.board, ticks))
     }
 
+    /// Runs on up to a look at the ledger, and gives up where it then has more than `MOST_LONG_ROWS` rows.
+    fn run_to_look(&mut self, look: u32) -> Result<(), OutOfMemory>
+        requires on { IsOn self.old }
+        requires cached { IsCached self.old }
+        requires within { self.old.board.time ≤ look }
+        requires limit { look ≤ most_ticks }
+        ensures on { OnOk result (IsOn self.new) }
+        ensures cached { OnOk result (IsCached self.new) }
+        ensures reached { OnOk result (self.new.board.time ≤ look) }
+        ensures system { system_of self.new ≡ system_of self.old }
+        ensures cut { OnErr result (IsCutShort (system_of self.old) look (world_of self.new.board)) }
+        ensures sure { HasRowsUpTo self.old look → IsOk result }
+        ensures took { OnOk result (TookFewRows self.old self.new) }
+    {
+        self.run(look)?;
+        if self.board.journal().len() > MOST_LONG_ROWS {
+            return Err(OutOfMemory);
+        }
+        Ok(())
+    }
+
     /// Runs on as `run` does, but gives up once the ledger has more than `MOST_LONG_ROWS` rows. It looks at them now and
-    /// then, so there may be some more.
+    /// then, so there may be some more. Where `TICK_ROWS` rows are spare for each event and each tick, and the ledger has at
+    /// most `MOST_LONG_ROWS` rows at the end, it isn't refused.
     pub fn run_long(&mut self, ticks: u32) -> Result<RunEnd, OutOfMemory>
         requires on { IsOn self.old }
         requires cached { IsCached self.old }
@@ -237,14 +260,12 @@ impl<'i, 'b, 'e> Course<'i, 'b, 'e> {
         ensures idle { OnOk result (self.new.board.time < ticks → is_idle_book (world_of self.new.board).book ≡ true) }
         ensures end { IfOk result (λ end. end ≡ end_of_run (world_of self.new.board) ticks) }
         ensures cut { OnErr result (IsCutShort (system_of self.old) ticks (world_of self.new.board)) }
+        ensures sure { HasRowsUpTo self.old ticks → IsOk result }
     {
         let mut until = self.board.time();
         while until < ticks {
             until = ticks.min(until + TICKS_BETWEEN_LOOKS);
-            self.run(until)?;
-            if self.board.journal().len() > MOST_LONG_ROWS {
-                return Err(OutOfMemory);
-            }
+            self.run_to_look(until)?;
         }
         self.run(ticks)
     }

@@ -1,2 +1,3 @@
 mod Clear
 mod Adding
+mod Few

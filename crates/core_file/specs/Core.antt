@@ -1,7 +1,7 @@
 -- The core of an environment: an ELF core file of its registers and of the pages that it sees.
-use Rattle.std.specs.Prelude.{ℕ, ◌+◌, ◌*◌, ◌%◌, ◌^◌, Bool, List, [], ◌∷◌, ◌++◌, length, if◌then◌else◌}
+use Rattle.std.specs.Prelude.{◌≤◌, ◌<◌, ℕ, ◌+◌, ◌*◌, ◌%◌, ◌^◌, Bool, List, [], ◌∷◌, ◌++◌, length, if◌then◌else◌}
 use Rattle.std.specs.List.{flat_map}
-use Rattle.aegis_limits.specs.Limits.{page_size}
+use Rattle.aegis_limits.specs.Limits.{most_mappings, page_size}
 use Rattle.elf_static.specs.Layout.{halves, identification, words}
 use Rattle.world_model.specs.Solo.{sight}
 use Rattle.world_model.specs.World.{World}
@@ -10,7 +10,7 @@ use Rattle.core_file.specs.Notes.{notes_size, notes_text}
 use Rattle.core_file.specs.Pages.{PageValue, pages_seen}
 use Rattle.core_file.specs.Runs.{runs_of}
 
--- the file header, for so many program headers, of which there are never 2 ^ 16
+-- the file header, for so many program headers, whose number is a half word (`HasFewHeaders`)
 unfoldable pub core_header : ℕ → List ℕ
 core_header headers =
     identification
@@ -69,3 +69,8 @@ unfoldable pub core_text : World → ℕ → List ℕ
 core_text w e =
     let pages = pages_seen (sight (w.solos e)) in
     headers_text (runs_of pages) ++ notes_text w e ++ pages_text pages
+
+-- A core of an environment without more guaranteed pages than an image may give it has fewer than 2 ^ 16 program headers.
+abbrev pub HasFewHeaders : World → ℕ → Type 0
+HasFewHeaders w e =
+    length (w.solos e).kept ≤ most_mappings → 1 + length (runs_of (pages_seen (sight (w.solos e)))) < 2 ^ 16

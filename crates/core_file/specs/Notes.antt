@@ -7,8 +7,6 @@ use Rattle.mips_exec.specs.declared.registers.Cpu.{Cpu}
 use Rattle.world_model.specs.declared.slot.Phase.{Phase}
 use Rattle.world_model.specs.declared.slot.Phase.TheVariants as phase
 use Rattle.world_model.specs.declared.slot.Runner.{Runner}
-use Rattle.world_model.specs.Book.{Book}
-use Rattle.world_model.specs.Solo.{Solo}
 use Rattle.world_model.specs.World.{World}
 use Rattle.run_report.specs.Report.{shown_cpu}
 
@@ -47,16 +45,17 @@ handler_words h = h.exception ∷ h.start ∷ h.end ∷ h.asynchronous ∷ h.syn
 
 -- the time, the version, where the environment goes on after its next instruction, whether that is in a delay slot, its
 -- excess and its mask
-abbrev pub place_words : ℕ → Book → Cpu → Solo → List ℕ
-place_words e b cpu s =
-    b.time ∷ version_number b.version ∷ cpu.next ∷ slot_number cpu.slot ∷ b.excess e ∷ s.mask ∷ []
+abbrev pub place_words : World → ℕ → List ℕ
+place_words w e =
+    let b = w.book in
+    let cpu = shown_cpu w e in
+    b.time ∷ version_number b.version ∷ cpu.next ∷ slot_number cpu.slot ∷ b.excess e ∷ (w.solos e).mask ∷ []
 
 -- what the kernel keeps of an environment
 unfoldable pub kernel_text : World → ℕ → List ℕ
 kernel_text w e =
-    let b = w.book in
-    let s = w.solos e in
-    words (place_words e b (shown_cpu w e) s) ++ words (handler_words s.handlers) ++ words (running_words e b.cursor b.runner)
+    words (place_words w e) ++ words (handler_words (w.solos e).handlers)
+    ++ words (running_words e w.book.cursor w.book.runner)
 
 unfoldable pub aegis_note : World → ℕ → List ℕ
 aegis_note w e = words (6 ∷ 56 ∷ []) ++ codes "AEGI" ++ codes "AEGIS" ++ replicate 3 0 ++ kernel_text w e

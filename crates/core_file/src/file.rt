@@ -24,7 +24,7 @@ const NOTES_ALIGNMENT: u32 = 4;
 /// The alignment of a run that may stand anywhere.
 const UNALIGNED: u32 = 1;
 /// How many values a half word has.
-const HALF_VALUES: usize = 65_536;
+const HALF_VALUES: usize = 1 << 16;
 
 /// Appends the file header, for so many program headers.
 #[tactic(auto, unfolding(crate::specs::Core::core_header, elf_static::specs::Layout::identification))]

@@ -8,6 +8,7 @@ use aegis_limits::OutOfMemory;
 use elf_static::push_words;
 use env_frames::Context;
 use mips_exec::Cpu;
+use run_report::shown_cpu;
 use world_model::{Phase, WorldView};
 
 /// How many bytes both notes have.
@@ -80,7 +81,7 @@ fn push_place<V: WorldView>(
 ) -> Result<(), OutOfMemory>
     requires there { env < (V.world view.now).count }
     requires cpu { cpu.now ≡ shown_cpu (V.world view.now) env }
-    ensures { OnOk result (file.new.items ≡ file.old.items ++ words (place_words env (V.world view.now).book cpu.now ((V.world view.now).solos env))) }
+    ensures { OnOk result (file.new.items ≡ file.old.items ++ words (place_words (V.world view.now) env)) }
 {
     let version = u32::from(view.version().number());
     push_words(
@@ -130,20 +131,6 @@ fn push_aegis_note<V: WorldView>(
     push_place(file, view, env, cpu)?;
     push_handlers(file, view, env)?;
     push_words(file, &running_words(view, env))
-}
-
-/// The registers that are shown of an environment: the runner's as they stand, and a stopped one's at rest.
-#[tactic(auto, unfolding(run_report::specs::Report::shown_cpu))]
-fn shown_cpu<V: WorldView>(view: &V, env: u8) -> Cpu
-    requires { env < (V.world view.now).count }
-    ensures { result ≡ shown_cpu (V.world view.now) env }
-{
-    let cpu = view.cpu(env);
-    if view.runner() == Some(env) {
-        cpu
-    } else {
-        cpu.rested()
-    }
 }
 
 /// Appends both notes.

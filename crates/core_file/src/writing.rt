@@ -1,6 +1,6 @@
 //! The core of an environment.
-ghost use Rattle.std.specs.Prelude.{◌≡◌, ◌<◌, IfOk};
-ghost use Rattle.core_file.specs.Core.{core_text};
+ghost use Rattle.std.specs.Prelude.{◌≡◌, ◌<◌, IfOk, OnOk};
+ghost use Rattle.core_file.specs.Core.{HasFewHeaders, core_text};
 
 use crate::file::{push_headers, push_pages};
 use crate::notes::push_notes;
@@ -15,7 +15,8 @@ use world_model::WorldView;
 #[tactic(auto, unfolding(crate::specs::Core::core_text))]
 pub fn core<V: WorldView>(alloc: Global, view: &V, env: u8) -> Result<Vec<u8>, OutOfMemory>
     requires { env < (V.world view.now).count }
-    ensures { IfOk result (λ file. file.items ≡ core_text (V.world view.now) env) }
+    ensures file { IfOk result (λ file. file.items ≡ core_text (V.world view.now) env) }
+    ensures headers { OnOk result (HasFewHeaders (V.world view.now) env) }
 {
     let pages = pages_seen(alloc, view, env)?;
     let runs = runs_of(alloc, &pages)?;

@@ -18,4 +18,5 @@ mod text;
 mod words;
 
 pub use environment::env_lines;
+pub use processor::shown_cpu;
 pub use text::{push_end_line, push_summary, report};

@@ -12,7 +12,7 @@ use world_model::WorldView;
 /// The registers that are shown of an environment: the runner's as they stand, and a stopped one's at
 /// rest.
 #[tactic(auto, unfolding(crate::specs::Report::shown_cpu))]
-pub(crate) fn shown_cpu<V: WorldView>(view: &V, env: u8) -> Cpu
+pub fn shown_cpu<V: WorldView>(view: &V, env: u8) -> Cpu
     requires { env < (V.world view.now).count }
     ensures { result ≡ shown_cpu (V.world view.now) env }
 {

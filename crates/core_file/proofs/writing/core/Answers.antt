@@ -7,6 +7,7 @@ use Rattle.core_file.specs.Pages.{pages_seen}
 use Rattle.core_file.specs.Runs.{runs_of}
 use Rattle.core_file.specs.Seen.{FitsWords, pages_shown}
 use Rattle.core_file.proofs.Adding.{are_writable, few_shown}
+use Rattle.core_file.proofs.Few.{few_headers}
 use Rattle.core_file.proofs.writing.core.Goals as goal
 
 pub runs_of-requires : goal.runs_of-requires
@@ -27,9 +28,9 @@ joined : (a b c o p q r : List ℕ) → o ≡ [] → p ≡ o ++ a → q ≡ p ++
 joined a b c o p q r none first second third =
     third ∙ ap (λ (xs : List ℕ). xs ++ c) (second ∙ ap (λ (xs : List ℕ). xs ++ b) (first ∙ ap (λ (xs : List ℕ). xs ++ a) none))
 
-pub returns : goal.returns
+pub returns-clause-file : goal.returns-clause-file
 unfolding core_text
-returns g c =
+returns-clause-file g c =
     let w = g.V.WorldView.world c.args.view.now in
     let look = sight (w.solos c.args.env) in
     let shown : pages_shown c.deref.result.now ≡ pages_seen look = ap pages_shown c.deref.ensures.value ∙ c.in_ok-pages.ensures in
@@ -40,3 +41,6 @@ returns g c =
     (c.in_ok-push_headers.ensures ∙ ap (λ rs. c.new-file.result.items ++ headers_text rs) runs)
     c.in_ok-push_notes.ensures
     (c.in_ok-push_pages.ensures ∙ ap (λ ps. c.push_notes.new.file.items ++ pages_text ps) last)
+
+pub returns-clause-headers : goal.returns-clause-headers
+returns-clause-headers g c = few_headers (g.V.WorldView.world c.args.view.now) c.args.env

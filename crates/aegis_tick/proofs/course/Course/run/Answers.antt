@@ -1,16 +1,47 @@
 -- Each turn of the loop is a tick of the run, and the plain ticks after it, until it is idle.
-use Rattle.std.proofs.Common.{◌≡◌, false, rules, sym, ◌∙◌, ap, subst, arith}
+use Rattle.std.proofs.Common.{◌≡◌, ◌≤◌, false, refl, rules, sym, ◌∙◌, ap, subst, arith}
 use Rattle.world_model.specs.Book.{is_idle_book}
 use Rattle.run_model.specs.Run.{System, happens_in, world_after}
 use Rattle.tlb_course.specs.Course.{cache_after}
 use Rattle.board_model.specs.Showing.{world_of}
 use Rattle.aegis_tick.specs.Course.{HappenedInPart, IsCutOff}
-use Rattle.aegis_tick.specs.OnCourse.{IsBoardOf, system_of}
+use Rattle.aegis_tick.specs.OnCourse.{IsBoardOf, TookFewRows, system_of}
 use Rattle.aegis_tick.proofs.Happening.{cut_accounted, cut_off}
 use Rattle.aegis_tick.proofs.OnCourse.{idle_cache, idle_world}
 use Rattle.aegis_tick.proofs.Refusals.{on_err}
+use Rattle.aegis_tick.proofs.Rows.{room_left, took_more, took_none}
 use Rattle.aegis_tick.proofs.course.Course.run.Goals as goal
 use Rattle.aegis_tick.proofs.course.Course.run.Goals.{then-loop-self-test+else-not-idle, else-loop-self-test}
+
+pub loop-self-init : goal.loop-self-init
+loop-self-init c = record {
+  on = c.requires.on;
+  cached = c.requires.cached;
+  within = c.requires.within;
+  system = refl;
+  room = λ room. room;
+  took = took_none c.args.self.now;
+}
+
+-- after one more tick, and the plain ticks after it
+took_few : (c : goal.After-glide) → TookFewRows c.args.self.now c.glide.new.self
+took_few c =
+    took_more c.args.self.now c.loop-self.self c.tick.new.self c.glide.new.self c.tick.result c.glide.result c.loop-self.invariant.took
+    c.tick.ensures.fewer c.in_ok-tick.ensures.time c.tick.ensures.sure c.glide.ensures.agenda c.glide.ensures.ledger c.glide.ensures.time
+
+within_ticks : (c : goal.After-glide) → c.glide.new.self.board.time ≤ c.args.ticks
+within_ticks c =
+    omega (arith, c.time.ensures, c.loop-self-test.true, c.in_ok-tick.ensures.time, c.time-in-loop-self.ensures, c.glide.ensures.time, c.glide.ensures.most)
+
+pub loop-self-preserved : goal.loop-self-preserved
+loop-self-preserved c = record {
+  on = c.glide.ensures.on;
+  cached = c.glide.ensures.cached (c.in_ok-tick.ensures.cached c.loop-self.invariant.cached);
+  within = within_ticks c;
+  system = c.glide.ensures.system ∙ c.tick.ensures.system ∙ c.loop-self.invariant.system;
+  room = room_left c.args.self.now c.glide.new.self c.args.ticks (within_ticks c) (took_few c);
+  took = took_few c;
+}
 
 -- a tick that is refused cuts the run off
 cut_here : (c : goal.After-from_residual) → IsCutOff (system_of c.args.self.now) c.args.ticks (world_of c.tick.new.self.board)
