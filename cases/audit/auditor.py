@@ -9,6 +9,7 @@ Kind = Tuple[str, int]  # of a number: its name and its limit
 Row = List[Any]  # a name and numbers, of which a dash is none
 
 MOST_TIME, LAST_SLOT, LAST_ENV, MOST_EXCESS, MOST_NUMBER = 4_194_304, 63, 31, 9, 2**32 - 1
+MOST_PACKET = 1_514
 LEAST_CLIENTS, MOST_CLIENTS, MOST_SHARE, STRIDE_UNIT = 2, 8, 12, 27_720
 TIME, SLOT, ENV, EXCESS, NUMBER = (("time", MOST_TIME), ("slot", LAST_SLOT), ("env", LAST_ENV), ("excess", MOST_EXCESS), ("number", MOST_NUMBER))
 ROWS = {
@@ -60,13 +61,16 @@ def read_row(name: str, words: List[bytes], line: int) -> Row:
 
 
 class Ledger:
-    """What a report says: how the run ended and when, its rows and its sums, each with its line."""
+    """What a report says: how the run ended and when, how many environments it has, its rows and its sums, each with its
+    line, and the line of `done`."""
 
     def __init__(self, text: bytes):
         self.rows: List[Tuple[int, Row]] = []
         self.sums: List[Tuple[int, List[int]]] = []
+        self.environments = 0
         last = "nothing"
         lines = lines_of(text)
+        self.done = len(lines)
         for line, content in enumerate(lines, 1):
             last = self.read(line, content, last)
         if last != "done":
@@ -89,6 +93,7 @@ class Ledger:
         if name in BEHIND:
             if last not in BEHIND[name]:
                 raise Fault("Syntax", line)
+            self.environments += name == "env"
             return name
         if name in ROWS:
             if last not in ("row", *ENV_ENDS):
@@ -271,8 +276,55 @@ class Auditor:
                 self.dead.add(env)
 
 
-def answer_to(report: bytes, quantum: int, plan: Optional[bytes] = None, names: Tuple[str, str] = ("report", "plan")) -> Tuple[int, str]:
-    """The status and the output of `audit`, for these texts."""
+class StrictAuditor:
+    """The second table: who has pages to give still, and until when, by the rows before a place."""
+
+    def __init__(self, ledger: Ledger):
+        self.ledger = ledger
+        self.requests: Dict[int, Tuple[int, int]] = {}  # of an environment: how many pages, and the deadline
+        self.dead: Set[int] = set()
+
+    def answer(self) -> Optional[int]:
+        """The line of the first fault, or none."""
+        for line, (name, time, *numbers_behind) in self.ledger.rows:
+            if not self.are_there(name, numbers_behind) or not getattr(self, "fits_" + name, lambda *_: True)(time, *numbers_behind):
+                return line
+            getattr(self, "note_" + name, lambda *_: None)(*numbers_behind)
+        sums, count = self.ledger.sums, self.ledger.environments
+        if len(sums) < count:
+            return self.ledger.done
+        return sums[count][0] if len(sums) > count else None
+
+    def are_there(self, name: str, numbers_behind: List[Any]) -> bool:
+        """Whether each environment that a row names has its lines."""
+        kinds = ROWS[name][1:]
+        return all(value is None or value < self.ledger.environments for kind, value in zip(kinds, numbers_behind) if kind == ENV)
+
+    def fits_asked(self, time: int, env: int, pages: int, deadline: int) -> bool:
+        return env not in self.dead and pages > 0 and deadline >= time
+
+    def fits_take(self, time: int, env: int, *_: Any) -> bool:
+        pages, deadline = self.requests.get(env, (0, 0))
+        return pages > 0 and deadline == time
+
+    def fits_drop(self, _: int, size: int) -> bool:
+        return 1 <= size <= MOST_PACKET
+
+    def note_asked(self, env: int, pages: int, deadline: int) -> None:
+        self.requests[env] = pages, deadline
+
+    def note_take(self, env: int, *_: Any) -> None:
+        pages, deadline = self.requests[env]
+        self.requests[env] = pages - 1, deadline
+
+    def note_dead(self, _: int, env: int) -> None:
+        self.requests.pop(env, None)
+        self.dead.add(env)
+
+
+def answer_to(report: bytes, quantum: int, plan: Optional[bytes] = None, names: Tuple[str, str] = ("report", "plan"),
+              strict: bool = False) -> Tuple[int, str]:
+    """The status and the output of `audit`, for these texts, by the first table or by both."""
     try:
         name = names[0]
         ledger = Ledger(report)
@@ -281,4 +333,6 @@ def answer_to(report: bytes, quantum: int, plan: Optional[bytes] = None, names: 
     except Fault as fault:
         return 3, f"aegis: {name}: {fault}\n"
     line = Auditor(ledger, quantum, rules).answer()
+    if line is None and strict:
+        line = StrictAuditor(ledger).answer()
     return (0, f"audit ok {len(ledger.rows)}\n") if line is None else (1, f"audit line {line}\n")

@@ -14,15 +14,15 @@ use Rattle.ledger_audit.specs.Laws.{CleanKeepsRules, KeptIsClean, keep_plan}
 use Rattle.ledger_audit.specs.StrideRule.{gifts_with, keeps_plan, no_gifts}
 
 -- a test that stops at a fault
-passed : (b : Bool) (n : ℕ) (rest : Option ℕ) → (if b then rest else Some n) ≡ None → (b ≡ true) × (rest ≡ None)
+pub passed : (b : Bool) (n : ℕ) (rest : Option ℕ) → (if b then rest else Some n) ≡ None → (b ≡ true) × (rest ≡ None)
 passed true n rest none = (refl, none)
 passed false n rest none = cc
 
-none_first : (a b : Option ℕ) → option_or a b ≡ None → (a ≡ None) × (b ≡ None)
+pub none_first : (a b : Option ℕ) → option_or a b ≡ None → (a ≡ None) × (b ≡ None)
 none_first None b none = (refl, none)
 none_first (Some n) b none = cc
 
-clean_none : (o : Option ℕ) → answer_by o ≡ Clean → o ≡ None
+pub clean_none : (o : Option ℕ) → answer_by o ≡ Clean → o ≡ None
 clean_none None is = refl
 clean_none (Some n) is = cc
 

@@ -3,4 +3,5 @@ mod Releasing
 mod Everywhere
 mod Scanning
 mod Judging
+mod Strictness
 mod Shares

@@ -5,3 +5,6 @@ pub mod Answer
 pub mod Auditor
 pub mod Laws
 pub mod Gifts
+pub mod StrictRules
+pub mod StrictAnswer
+pub mod Requests

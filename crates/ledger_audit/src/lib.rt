@@ -7,10 +7,13 @@ mod fitting;
 mod gifts;
 mod laws;
 mod pass;
+mod requests;
 mod slots;
 mod state;
+mod strict;
 mod turns;
 
 pub use answer::AuditAnswer;
-pub use laws::law_audit;
+pub use laws::{law_audit, law_strict_audit};
 pub use pass::audit;
+pub use strict::audit_strictly;

@@ -36,7 +36,7 @@ pub fn audit(ledger: &Ledger, quantum: u32, plan: Option<&Plan>) -> AuditAnswer
 }
 
 /// The line of the first fault, if there is one.
-fn first_fault(ledger: &Ledger, quantum: u32, plan: Option<&Plan>) -> Option<u32>
+pub(crate) fn first_fault(ledger: &Ledger, quantum: u32, plan: Option<&Plan>) -> Option<u32>
     requires quantum { 1 ≤ quantum }
     requires ledger { IsLedgerWithin (ledger_seen ledger.now) }
     requires plan { IfSome plan (λ p. IsPlanWithin (plan_seen p.now)) }

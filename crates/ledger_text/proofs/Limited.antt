@@ -23,7 +23,7 @@ use Rattle.ledger_text.specs.declared.fault.LedgerWhy.{LedgerWhy}
 use Rattle.ledger_text.specs.declared.fault.LedgerWhy.TheVariants.{Syntax, Range}
 use Rattle.ledger_text.specs.declared.kind.LineKind.{LineKind}
 use Rattle.ledger_text.specs.declared.kind.LineKind.TheVariants as kind
-use Rattle.ledger_text.specs.LedgerText.{LedgerValue, end_form, end_said, kind_of, ledger_read, line_said, no_ledger, only_text, read_from, said_by, sum_form, sum_of, with_entry}
+use Rattle.ledger_text.specs.LedgerText.{LedgerValue, end_form, end_said, kind_of, ledger_read, line_said, no_ledger, only_text, read_from, said_by, sum_form, sum_of, with_entry, with_kind}
 use Rattle.ledger_text.specs.Limits.{last_environment, least_clients, most_clients, most_share}
 use Rattle.ledger_text.specs.LineKinds.{first_word, is_kind_done, kind_after, may_follow}
 use Rattle.ledger_text.specs.PlanText.{client_form, client_said, clients_from, from_form, may_join, next_client, plan_from, plan_read, share_in}
@@ -145,8 +145,13 @@ with_one P xs x before here = All-append P xs (x ∷ []) before only
     only zero d less = here
     only (suc k) d less = absurd (omega (arith, less))
 
+with_kind_limited : (line : ℕ) (known : LineKind) (ledger : LedgerValue) → IsLedgerWithin ledger → IsLedgerWithin (with_kind line known ledger)
+with_kind_limited line kind.Env ledger before = record { time = before.time; rows = before.rows; sums = before.sums }
+with_kind_limited line kind.Done ledger before = record { time = before.time; rows = before.rows; sums = before.sums }
+with_kind_limited line known ledger before = before
+
 with_limited : (line : ℕ) (e : Entry) (ledger : LedgerValue) → IsEntryWithin e → IsLedgerWithin ledger → IsLedgerWithin (with_entry line e ledger)
-with_limited line (entry.Other known) ledger here before = before
+with_limited line (entry.Other known) ledger here before = with_kind_limited line known ledger before
 with_limited line (entry.End idle time) ledger here before = record { time = here; rows = before.rows; sums = before.sums }
 with_limited line (entry.Row r) ledger here before =
     record { time = before.time; rows = with_one (λ (x : ℕ × Row). IsRowWithin x.1) ledger.rows (line, r) before.rows here; sums = before.sums }

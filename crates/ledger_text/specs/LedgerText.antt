@@ -19,20 +19,28 @@ use Rattle.ledger_text.specs.LineKinds.{first_word, is_kind_done, kind_after, ma
 use Rattle.ledger_text.specs.RowText.{env_in, if_numerals, other_in, row_said, time_in}
 use Rattle.ledger_text.specs.Words.{spaced_words}
 
--- Whether the run ended because the board was idle, and when; the rows and the sums, each with its line. A sum has an
--- environment, and how many rows of it are runs, pays and overs.
+-- Whether the run ended because the board was idle, and when; the lines of the environments; the rows and the sums, each
+-- with its line; and the line after these. A sum has an environment, and how many rows of it are runs, pays and overs.
 pub record LedgerValue : Type 0 where
   pub idle : Bool
   pub time : ℕ
+  pub environments : List ℕ
   pub rows : List (ℕ × Row)
   pub sums : List (ℕ × List ℕ)
+  pub done : ℕ
 
 abbrev pub ledger_seen : Ledger → LedgerValue
-ledger_seen ledger =
-    record { idle = ledger.idle; time = ledger.time; rows = ledger.rows.items; sums = ledger.sums.items }
+ledger_seen ledger = record {
+  idle = ledger.idle;
+  time = ledger.time;
+  environments = ledger.environments.items;
+  rows = ledger.rows.items;
+  sums = ledger.sums.items;
+  done = ledger.done;
+}
 
 abbrev pub no_ledger : LedgerValue
-no_ledger = record { idle = false; time = 0; rows = []; sums = [] }
+no_ledger = record { idle = false; time = 0; environments = []; rows = []; sums = []; done = 0 }
 
 -- how a run ended
 abbrev pub end_said : Bool → List ℕ → Result Entry LedgerWhy
@@ -87,9 +95,15 @@ kind_of (entry.End idle time) = kind.End
 kind_of (entry.Row r) = kind.Row
 kind_of (entry.Sum sum) = kind.Sum
 
+-- the ledger with one line more of which the first word is all that is read
+abbrev pub with_kind : ℕ → LineKind → LedgerValue → LedgerValue
+with_kind line kind.Env ledger = record ledger { environments = ledger.environments ++ line ∷ [] }
+with_kind line kind.Done ledger = record ledger { done = line }
+with_kind line known ledger = ledger
+
 -- the ledger with one line more
 abbrev pub with_entry : ℕ → Entry → LedgerValue → LedgerValue
-with_entry line (entry.Other known) ledger = ledger
+with_entry line (entry.Other known) ledger = with_kind line known ledger
 with_entry line (entry.End idle time) ledger = record ledger { idle = idle; time = time }
 with_entry line (entry.Row r) ledger = record ledger { rows = ledger.rows ++ (line, r) ∷ [] }
 with_entry line (entry.Sum sum) ledger = record ledger { sums = ledger.sums ++ (line, sum) ∷ [] }

@@ -1,9 +1,9 @@
 -- The numbers of a world's slots, runner, excess and backups, and of its rows, are within their limits.
-use Rattle.std.proofs.Common.{arith, refl, ◌<◌, ◌≤◌, ◌+◌, ℕ, zero, suc, List, [], ◌∷◌, ◌++◌, Bool, take, drop, Option, None, Some}
+use Rattle.std.proofs.Common.{arith, refl, ◌<◌, ◌≤◌, ◌+◌, ℕ, zero, suc, List, [], ◌∷◌, ◌++◌, ◌≡◌, Bool, true, take, drop, Option, None, Some}
 use Rattle.std.specs.Prelude.{◌==◌, filter, min, nat_lt, if◌then◌else◌}
 use Rattle.std.specs.List.{AllByRecursion}
 use Rattle.std.specs.Option.{option_map}
-use Rattle.std.proofs.lemmas.Bool.{and_parts, cond_both, ltb-true}
+use Rattle.std.proofs.lemmas.Bool.{and_from, and_parts, cond_both, lt-ltb, ltb-true}
 use Rattle.aegis_limits.specs.Limits.{excess_limit, most_environments, most_pages, most_quantum, most_slots, most_run_ticks}
 use Rattle.kernel_journal.specs.declared.row.Row.{Row}
 use Rattle.revocation_book.specs.declared.revocation.Pending.{Pending}
@@ -16,10 +16,15 @@ use Rattle.world_model.specs.SlotCalls.{dropped, handed, held_by, slot_row}
 use Rattle.world_model.specs.Table.{set_at}
 use Rattle.world_model.specs.World.{World, Reply, after, is_living, no_change}
 use Rattle.ledger_text.specs.Limits.{most_number}
+use Rattle.ledger_audit.specs.StrictRules.{are_there}
 use Rattle.report_law.proofs.Rows.{IsSmall}
 
-abbrev pub AllSmall : List Row → Type 0
-AllSmall rows = AllByRecursion IsSmall rows
+-- a row's numbers are within their limits, and it names none but so many environments
+abbrev pub IsRowOf : ℕ → Row → Type 0
+IsRowOf n r = IsSmall r × (are_there n r ≡ true)
+
+abbrev pub AllSmall : ℕ → List Row → Type 0
+AllSmall n rows = AllByRecursion (IsRowOf n) rows
 
 -- what of a book bounds the numbers of rows
 pub record Core : Type 0 where
@@ -73,12 +78,12 @@ pub record IsHeld (t n : ℕ) (c : Core) : Type 0 where
 
 pub record IsBounded (t : ℕ) (w : World) : Type 0 where
   pub held : IsHeld t w.count (core w.book)
-  pub rows : AllSmall w.rows
+  pub rows : AllSmall w.count w.rows
 
 -- what a reply leaves
 pub record Keeps (t n : ℕ) (r : Reply) : Type 0 where
   pub held : IsHeld t n (core r.book)
-  pub rows : AllSmall r.rows
+  pub rows : AllSmall n r.rows
 
 pub all_append : {X : Type 0} (P : X → Type 0) (xs ys : List X) → AllByRecursion P xs → AllByRecursion P ys → AllByRecursion P (xs ++ ys)
 all_append P [] ys first second = second
@@ -101,17 +106,19 @@ all_filter P p (x ∷ xs) (here, all) =
     cond_both (p x) (x ∷ filter p xs) (filter p xs) (AllByRecursion P) (λ passes. (here, rest)) (λ fails. rest)
 
 pub after_bounded : (t : ℕ) (w : World) (r : Reply) → IsBounded t w → Keeps t w.count r → IsBounded t (after w r)
-after_bounded t w r bounded keeps = record { held = keeps.held; rows = all_append IsSmall w.rows r.rows bounded.rows keeps.rows }
+after_bounded t w r bounded keeps = record { held = keeps.held; rows = all_append (IsRowOf w.count) w.rows r.rows bounded.rows keeps.rows }
 
 -- a table that is changed at one number
 pub set_each : {A : Type 0} (P : A → Type 0) (n : ℕ) (x : A) (f : ℕ → A) → P x → ((i : ℕ) → P (f i)) → (i : ℕ) → P (set_at n x f i)
 set_each P n x f here each i = cond_both (i == n) x (f i) P (λ is. here) (λ other. each i)
 
 -- slots
-pub slot_small : (n t k : ℕ) (hold : Option Hold) → n ≤ most_environments → k < most_slots → IsHoldBelow n hold → IsSmall (slot_row t k hold)
-slot_small n t k None few place below = λ at. record { numbers = (at, (omega (arith, place), (tt, (tt, tt)))); paired = refl }
-slot_small n t k (Some hold) few place (owner, holder) =
-    λ at. record { numbers = (at, (omega (arith, place), (omega (arith, few, owner), (omega (arith, few, holder), tt)))); paired = refl }
+pub slot_small : (n t k : ℕ) (hold : Option Hold) → n ≤ most_environments → k < most_slots → IsHoldBelow n hold → IsRowOf n (slot_row t k hold)
+slot_small n t k None few place below = (λ at. record { numbers = (at, (omega (arith, place), (tt, (tt, tt)))); paired = refl }, refl)
+slot_small n t k (Some hold) few place (owner, holder) = (
+  λ at. record { numbers = (at, (omega (arith, place), (omega (arith, few, owner), (omega (arith, few, holder), tt)))); paired = refl },
+  and_from (nat_lt hold.owner n) (nat_lt hold.holder n) (lt-ltb hold.owner n owner) (lt-ltb hold.holder n holder),
+)
 
 pub dropped_below : (n e : ℕ) (hold : Option Hold) → IsHoldBelow n hold → IsHoldBelow n (dropped e hold)
 dropped_below n e None below = tt
@@ -143,7 +150,7 @@ asked_small count deadline pending soon =
 
 asks_bounded : (t : ℕ) (w : World) (e : ℕ) (pending : Option Pending) → IsHeld t w.count (core w.book) → e < w.count → IsPendingSmall pending → Keeps t w.count (asks e pending w)
 asks_bounded t w e None held there small = record { held = held; rows = tt }
-asks_bounded t w e (Some p) held there (many, until) = record { held = held; rows = (λ at. record { numbers = (at, (omega (arith, there, held.few), (many, (until, tt)))); paired = refl }, tt) }
+asks_bounded t w e (Some p) held there (many, until) = record { held = held; rows = ((λ at. record { numbers = (at, (omega (arith, there, held.few), (many, (until, tt)))); paired = refl }, lt-ltb e w.count there), tt) }
 
 pub revokes_bounded : (t : ℕ) (w : World) (e count deadline : ℕ) → IsHeld t w.count (core w.book) → deadline ≤ most_number → Keeps t w.count (revokes e count deadline w)
 revokes_bounded t w e count deadline held soon =

@@ -1,5 +1,5 @@
 -- A text that is read up to some place: what of it is known there, and what is left.
-use Rattle.std.proofs.Common.{refl, sym, ◌∙◌, ap, subst, ◌≡◌, ◌+◌, ℕ, List, [], ◌∷◌, ◌++◌, append_assoc, length, Bool, true, false, Some, Result, Ok}
+use Rattle.std.proofs.Common.{refl, sym, ◌∙◌, ap, subst, ◌≡◌, ◌+◌, ℕ, suc, List, [], ◌∷◌, ◌++◌, append_assoc, arith, length, length-append, Bool, true, false, Some, Result, Ok}
 use Rattle.std.specs.List.{AllByRecursion, flat_map}
 use Rattle.std.proofs.lemmas.List.{append-nil}
 use Rattle.kernel_journal.specs.declared.row.Row.{Row}
@@ -12,7 +12,8 @@ use Rattle.ledger_text.specs.declared.entry.Entry.{Entry}
 use Rattle.ledger_text.specs.declared.entry.Entry.TheVariants as entry
 use Rattle.ledger_text.specs.declared.fault.LedgerWhy.{LedgerWhy}
 use Rattle.ledger_text.specs.declared.kind.LineKind.{LineKind}
-use Rattle.ledger_text.specs.LedgerText.{LedgerValue, kind_of, line_said, read_from, said_by, with_entry}
+use Rattle.ledger_text.specs.declared.kind.LineKind.TheVariants as kind
+use Rattle.ledger_text.specs.LedgerText.{LedgerValue, kind_of, line_said, read_from, said_by, with_entry, with_kind}
 use Rattle.ledger_text.specs.LineKinds.{before_row, first_word, is_kind_end, kind_named, may_follow}
 use Rattle.report_law.specs.ReportLaw.{values_of}
 use Rattle.report_law.proofs.Bytes.{AtLeast}
@@ -39,12 +40,14 @@ values_more (y ∷ xs) n x = ap (λ ys. y.1 ∷ ys) (values_more xs n x)
 pub record Known : Type 0 where
   pub idle : Bool
   pub time : ℕ
+  pub environments : ℕ
   pub rows : List Row
   pub sums : List (List ℕ)
 
 pub record Has (ledger : LedgerValue) (k : Known) : Type 0 where
   pub idle : ledger.idle ≡ k.idle
   pub time : ledger.time ≡ k.time
+  pub environments : length ledger.environments ≡ k.environments
   pub rows : values_of ledger.rows ≡ k.rows
   pub sums : values_of ledger.sums ≡ k.sums
 
@@ -81,16 +84,44 @@ weaker end from P Q k rest more at =
 pub rest_is : (end : ℕ) (from : Result LedgerValue (LineFault LedgerWhy)) (P : LineKind → Bool) (k : Known) (rest rest' : List ℕ) → rest ≡ rest' → At end from P k rest → At end from P k rest'
 rest_is end from P k rest rest' is at = subst (At end from P k) is at
 
--- A part of a text that leads from lines of some kinds to lines of others, and says nothing of the ledger.
+-- A part of a text that leads from lines of some kinds to lines of others, and from a ledger that has this to one that has
+-- that; and one that says nothing of the ledger.
+abbrev pub Leads : ℕ → Result LedgerValue (LineFault LedgerWhy) → Known → Known → (LineKind → Bool) → (LineKind → Bool) → List ℕ → Type 0
+Leads end from k l P Q text = (rest : List ℕ) → At end from P k (text ++ rest) → At end from Q l rest
+
 abbrev pub Passes : ℕ → Result LedgerValue (LineFault LedgerWhy) → Known → (LineKind → Bool) → (LineKind → Bool) → List ℕ → Type 0
-Passes end from k P Q text = (rest : List ℕ) → At end from P k (text ++ rest) → At end from Q k rest
+Passes end from k P Q text = Leads end from k k P Q text
+
+pub lead_both : (end : ℕ) (from : Result LedgerValue (LineFault LedgerWhy)) (k l m : Known) (P Q R : LineKind → Bool) (xs ys : List ℕ)
+    → Leads end from k l P Q xs → Leads end from l m Q R ys → Leads end from k m P R (xs ++ ys)
+lead_both end from k l m P Q R xs ys first second rest at =
+    second rest (first (ys ++ rest) (rest_is end from P k ((xs ++ ys) ++ rest) (xs ++ (ys ++ rest)) (append_assoc xs ys rest) at))
+
+-- a line that is known by its first word, and not read further
+pub lead_line : (end : ℕ) (from : Result LedgerValue (LineFault LedgerWhy)) (k l : Known) (P Q : LineKind → Bool) (known : LineKind) (word : List ℕ) (words : List (List ℕ))
+    → is_kind_end known ≡ false → ((last : LineKind) → P last ≡ true → may_follow last known ≡ true) → ((text : List ℕ) → said_by known text ≡ Ok (entry.Other known))
+    → ((number : ℕ) (ledger : LedgerValue) → Has ledger k → Has (with_kind number known ledger) l) → Q known ≡ true → kind_named (first_word (word ++ flat_map spaced words)) ≡ Some known
+    → AtLeast 32 (word ++ flat_map spaced words) → Leads end from k l P Q (line (word ∷ words))
+lead_line end from k l P Q known word words other follows says more then named plain rest at =
+    let body = word ++ flat_map spaced words in
+    step_at end from P Q k l body rest (entry.Other known) plain
+    (λ last passes. known_line last known body (entry.Other known) other (follows last passes) named (says body)) then more
+    (rest_is end from P k (line (word ∷ words) ++ rest) (body ++ 10 ∷ rest) (line_then word words rest) at)
+
+-- with one environment more
+abbrev pub one_more : Known → Known
+one_more k = record k { environments = suc k.environments }
+
+pub has_one_more : (number : ℕ) (ledger : LedgerValue) (k : Known) → Has ledger k → Has (with_kind number kind.Env ledger) (one_more k)
+has_one_more number ledger k has =
+    record { idle = has.idle; time = has.time; environments = omega (arith, length-append ledger.environments (number ∷ []), has.environments); rows = has.rows; sums = has.sums }
 
 module _ (end : ℕ) (from : Result LedgerValue (LineFault LedgerWhy)) (k : Known) where
   pub pass_none : (P : LineKind → Bool) → Passes end from k P P []
   pass_none P rest at = at
 
   pub pass_both : (P Q R : LineKind → Bool) (xs ys : List ℕ) → Passes end from k P Q xs → Passes end from k Q R ys → Passes end from k P R (xs ++ ys)
-  pass_both P Q R xs ys first second rest at = second rest (first (ys ++ rest) (rest_is end from P k ((xs ++ ys) ++ rest) (xs ++ (ys ++ rest)) (append_assoc xs ys rest) at))
+  pass_both P Q R xs ys first second = lead_both end from k k k P Q R xs ys first second
 
   pub pass_wider : (P Q P' Q' : LineKind → Bool) (xs : List ℕ) → ((last : LineKind) → P' last ≡ true → P last ≡ true) → ((last : LineKind) → Q last ≡ true → Q' last ≡ true)
       → Passes end from k P Q xs → Passes end from k P' Q' xs
@@ -100,16 +131,12 @@ module _ (end : ℕ) (from : Result LedgerValue (LineFault LedgerWhy)) (k : Know
   pass_each P f each [] = pass_none P
   pass_each P f each (x ∷ xs) = pass_both P P P (f x) (flat_map f xs) (each x) (pass_each P f each xs)
 
-  -- a line that is known by its first word, and not read further
+  -- a line that says nothing of the ledger
   pub pass_line : (P Q : LineKind → Bool) (known : LineKind) (word : List ℕ) (words : List (List ℕ)) → is_kind_end known ≡ false → ((last : LineKind) → P last ≡ true → may_follow last known ≡ true)
-      → ((text : List ℕ) → said_by known text ≡ Ok (entry.Other known)) → Q known ≡ true → kind_named (first_word (word ++ flat_map spaced words)) ≡ Some known
+      → ((text : List ℕ) → said_by known text ≡ Ok (entry.Other known)) → ((number : ℕ) (ledger : LedgerValue) → with_kind number known ledger ≡ ledger) → Q known ≡ true → kind_named (first_word (word ++ flat_map spaced words)) ≡ Some known
       → AtLeast 32 (word ++ flat_map spaced words) → Passes end from k P Q (line (word ∷ words))
-  pass_line P Q known word words other follows says then named plain rest at =
-      let body = word ++ flat_map spaced words in
-      step_at end from P Q k k body rest (entry.Other known) plain
-      (λ last passes. known_line last known body (entry.Other known) other (follows last passes) named (says body)) then
-      (λ number ledger has. has)
-      (rest_is end from P k (line (word ∷ words) ++ rest) (body ++ 10 ∷ rest) (line_then word words rest) at)
+  pass_line P Q known word words other follows says leaves then named plain =
+      lead_line end from k k P Q known word words other follows says (λ number ledger has. subst (λ (l : LedgerValue). Has l k) (sym (leaves number ledger)) has) then named plain
 
 -- rows
 abbrev pub AreWithin : List Row → Type 0
@@ -133,6 +160,6 @@ rows_at back end from k (r ∷ rows) rest (here, within) at =
     (append_assoc (row_body r ++ 10 ∷ []) (flat_map row_text rows) rest ∙ append_assoc (row_body r) (10 ∷ []) tail) at in
     let next : At end from before_row l tail =
     step_at end from before_row before_row k l (row_body r) tail (entry.Row r) line.plain line.said refl
-    (λ number ledger has. record { idle = has.idle; time = has.time; rows = values_more ledger.rows number r ∙ ap (λ (rs : List Row). rs ++ r ∷ []) has.rows; sums = has.sums }) moved in
+    (λ number ledger has. record { idle = has.idle; time = has.time; environments = has.environments; rows = values_more ledger.rows number r ∙ ap (λ (rs : List Row). rs ++ r ∷ []) has.rows; sums = has.sums }) moved in
     subst (λ (rs : List Row). At end from before_row (record k { rows = rs }) rest) (append_assoc k.rows (r ∷ []) rows)
     (rows_at back end from l rows rest within next)

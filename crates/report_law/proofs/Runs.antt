@@ -15,6 +15,7 @@ use Rattle.kernel_journal.specs.RowTable.{RowsAreReadBack, time_of}
 use Rattle.ledger_audit.specs.LedgerState.{LedgerState, first_state, state_after}
 use Rattle.ledger_text.specs.Limits.{most_number}
 use Rattle.ledger_audit.specs.Answer.{is_sum, rows_of}
+use Rattle.ledger_audit.specs.StrictRules.{are_there}
 use Rattle.ledger_law.specs.LedgerLaw.{RowsFit, RunsAreClean}
 use Rattle.report_law.specs.ReportLaw.{AreEventsWithin, ReportsAreClean, ReportsAreRead, tally_of}
 use Rattle.report_law.proofs.Bounded.{AllSmall}
@@ -25,9 +26,14 @@ use Rattle.report_law.proofs.Ticks.{count_is, run_bounded}
 use Rattle.report_law.proofs.Whole.{IsShown, report_read, rows_values, sums_right}
 
 -- times and other numbers together
-rows_small : (most : ℕ) (rows : List Row) → most ≤ most_run_ticks → AllByRecursion (λ (r : Row). time_of r ≤ most) rows → AllSmall rows → AreWithin rows
-rows_small most [] soon times small = tt
-rows_small most (r ∷ rows) soon (time, times) (here, small) = (here (omega (arith, time, soon)), rows_small most rows soon times small)
+rows_small : (most n : ℕ) (rows : List Row) → most ≤ most_run_ticks → AllByRecursion (λ (r : Row). time_of r ≤ most) rows → AllSmall n rows → AreWithin rows
+rows_small most n [] soon times small = tt
+rows_small most n (r ∷ rows) soon (time, times) (here, small) = (here.0 (omega (arith, time, soon)), rows_small most n rows soon times small)
+
+-- whom they name
+rows_there : (n : ℕ) (rows : List Row) → AllSmall n rows → AllByRecursion (λ (r : Row). are_there n r ≡ true) rows
+rows_there n [] small = tt
+rows_there n (r ∷ rows) (here, small) = (here.1, rows_there n rows small)
 
 begun : (s : LedgerState) (end e : ℕ) → IsCounted end s → s.runs e ≤ s.time + 1
 begun s end e c = by_runner s.runner (c.runs e)
@@ -68,7 +74,7 @@ shown granted fold licensed fit system limit accepted events soon =
       named = run_named fold licensed system accepted limit;
       some = omega (arith, count_is system limit, accepted.programs_least);
       few = bounded.held.few;
-      rows = rows_small w.book.time w.rows time counted.times bounded.rows;
+      rows = rows_small w.book.time w.count w.rows time counted.times bounded.rows;
       counts = λ e. few_of w.rows w.book.time e time counted.state;
     }
 
@@ -89,6 +95,8 @@ reports_read back granted fold licensed fit system limit accepted events soon =
             (λ e. subst (λ (rs : List Row). is_sum (state_after rs) e (tally_of w.rows e) ≡ true) (sym rows) (right_sum w.rows e)) w.count read.ledger.sums read.has.sums;
       };
       sums = read.has.sums ∙ ap (listed (tally_of w.rows)) (count_is system limit);
+      environments = read.has.environments ∙ count_is system limit;
+      named = subst (λ (n : ℕ). AllByRecursion (λ (r : Row). are_there n r ≡ true) w.rows) (count_is system limit) (rows_there w.count w.rows (run_bounded granted system limit accepted events soon).rows);
     }
 
 -- and so it is found clean

@@ -2,7 +2,7 @@
 use Rattle.std.proofs.Common.{arith, refl, sym, subst, ◌≡◌, ◌<◌, ◌≤◌, ◌+◌, ◌*◌, ℕ, List, [], ◌∷◌, true, ◌&&◌, Option, None, Some}
 use Rattle.std.specs.Prelude.{◌==◌, is_none, nat_lt, not}
 use Rattle.std.specs.Option.{option_map}
-use Rattle.std.proofs.lemmas.Bool.{and_parts, cond_both, ltb-true}
+use Rattle.std.proofs.lemmas.Bool.{and_from, and_parts, cond_both, lt-ltb, ltb-true}
 use Rattle.aegis_limits.specs.Limits.{excess_limit}
 use Rattle.env_frames.specs.declared.transfer.TransferKind.TheVariants as kind
 use Rattle.revocation_book.specs.Backups.{loaded, unloaded}
@@ -40,8 +40,14 @@ module _ (t : ℕ) (w : World) (e : ℕ) (held : IsHeld t w.count (core w.book))
   who : e ≤ 31
   who = omega (arith, there, held.few)
 
+  named : nat_lt e w.count ≡ true
+  named = lt-ltb e w.count there
+
+  both_named : (target : ℕ) → target < w.count → nat_lt e w.count && nat_lt target w.count ≡ true
+  both_named target other = and_from (nat_lt e w.count) (nat_lt target w.count) named (lt-ltb target w.count other)
+
   same : (r : Reply) → core r.book ≡ core w.book → r.rows ≡ [] → Keeps t w.count r
-  same r is none = record { held = subst (IsHeld t w.count) (sym is) held; rows = subst AllSmall (sym none) tt }
+  same r is none = record { held = subst (IsHeld t w.count) (sym is) held; rows = subst (AllSmall w.count) (sym none) tt }
 
   with_runs : (slots : ℕ → Option Hold) (runner : Option Runner) → ((k : ℕ) → IsHoldBelow w.count (slots k)) → IsRunnerBelow w.count runner → IsHeld t w.count (record (core w.book) { slots = slots; runner = runner })
   with_runs slots runner holds runs = record {
@@ -87,10 +93,10 @@ module _ (t : ℕ) (w : World) (e : ℕ) (held : IsHeld t w.count (core w.book))
   deed_bounded : (d : Deed) → May w e d → Keeps t w.count (done w e d)
   deed_bounded Answers may = same (done w e Answers) refl refl
   deed_bounded (Own own) may = same (done w e (Own own)) refl refl
-  deed_bounded Stops may = record { held = with_runs w.book.slots None held.slots tt; rows = (λ at. record { numbers = (at, (place, (who, tt))); paired = refl }, tt) }
+  deed_bounded Stops may = record { held = with_runs w.book.slots None held.slots tt; rows = ((λ at. record { numbers = (at, (place, (who, tt))); paired = refl }, named), tt) }
   deed_bounded (Gives target) may =
       let other = there_other w e target may.other in
-      record { held = with_runs w.book.slots (handed target w.book.runner) held.slots (handed_runner w.count target w.book.runner other); rows = (λ at. record { numbers = (at, (place, (who, (omega (arith, other, held.few), tt)))); paired = refl }, tt) }
+      record { held = with_runs w.book.slots (handed target w.book.runner) held.slots (handed_runner w.count target w.book.runner other); rows = ((λ at. record { numbers = (at, (place, (who, (omega (arith, other, held.few), tt)))); paired = refl }, both_named target other), tt) }
   deed_bounded (Allocates page words) may = same (done w e (Allocates page words)) refl refl
   deed_bounded (Frees page) may = record {
     held = with_backups (set_at e (unloaded page (w.book.backups e)) w.book.backups)
@@ -102,13 +108,13 @@ module _ (t : ℕ) (w : World) (e : ℕ) (held : IsHeld t w.count (core w.book))
   deed_bounded (Unbinds vpn) may = same (done w e (Unbinds vpn)) refl refl
   deed_bounded (Transfers target kind.Asynchronous) may =
       let other = there_other w e target may.reach.other in
-      record { held = with_runs w.book.slots (handed target w.book.runner) held.slots (handed_runner w.count target w.book.runner other); rows = (λ at. record { numbers = (at, (place, (who, (omega (arith, other, held.few), tt)))); paired = refl }, tt) }
+      record { held = with_runs w.book.slots (handed target w.book.runner) held.slots (handed_runner w.count target w.book.runner other); rows = ((λ at. record { numbers = (at, (place, (who, (omega (arith, other, held.few), tt)))); paired = refl }, both_named target other), tt) }
   deed_bounded (Transfers target kind.Synchronous) may =
       let other = there_other w e target may.reach.other in
       record {
         held = with_runs _ (handed target w.book.runner) (in_slot target other) (handed_runner w.count target w.book.runner other);
         rows = (
-          λ at. record { numbers = (at, (place, (who, (omega (arith, other, held.few), tt)))); paired = refl },
+          (λ at. record { numbers = (at, (place, (who, (omega (arith, other, held.few), tt)))); paired = refl }, both_named target other),
           (
             slot_small w.count w.book.time w.book.cursor (option_map (held_by target) (turn_slot w.book)) held.few (omega (arith, held.cursor, held.slot_count))
                 (handed_slot w.count target (turn_slot w.book) other (held.slots w.book.cursor)),

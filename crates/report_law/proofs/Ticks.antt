@@ -2,7 +2,7 @@
 use Rattle.std.proofs.Common.{arith, refl, sym, ◌∙◌, subst, ◌≡◌, ◌<◌, ◌≤◌, ◌+◌, ℕ, zero, suc, List, [], ◌∷◌, map, length, true, ◌&&◌, Option, None, Some, IfSome}
 use Rattle.std.specs.Prelude.{nat_le, drop}
 use Rattle.std.specs.List.{AllByRecursion, list_all}
-use Rattle.std.proofs.lemmas.Bool.{and_parts, cond_both, leb-true}
+use Rattle.std.proofs.lemmas.Bool.{and_parts, cond_both, leb-true, lt-ltb}
 use Rattle.aegis_limits.specs.declared.version.Version.{Version}
 use Rattle.aegis_limits.specs.declared.version.Version.TheVariants.{One, Two}
 use Rattle.aegis_limits.specs.Limits.{most_environments, most_pages, most_run_ticks}
@@ -31,14 +31,13 @@ use Rattle.run_model.specs.Run.{System, happens_in, next_phases, next_world, onc
 use Rattle.run_model.proofs.Phases.{run_append}
 use Rattle.ledger_text.specs.Limits.{most_number}
 use Rattle.report_law.specs.ReportLaw.{AreEventsWithin}
-use Rattle.report_law.proofs.Rows.{IsSmall}
-use Rattle.report_law.proofs.Bounded.{AllSmall, ArePages, IsBounded, IsHeld, IsHoldBelow, Keeps, after_bounded, all_append, all_drop, all_take, core, revokes_bounded, set_each, slot_small}
+use Rattle.report_law.proofs.Bounded.{AllSmall, ArePages, IsBounded, IsHeld, IsHoldBelow, IsRowOf, Keeps, after_bounded, all_append, all_drop, all_take, core, revokes_bounded, set_each, slot_small}
 use Rattle.report_law.proofs.Steps.{step_bounded}
 use Rattle.report_law.proofs.Turns.{timer_bounded, turn_bounded}
 
 -- what happens from outside
 packet_bounded : (t : ℕ) (w : World) (packet : List ℕ) (claim : Option ClaimValue) → IsHeld t w.count (core w.book) → length packet ≤ most_number → Keeps t w.count (arrives packet claim w)
-packet_bounded t w packet None held short = record { held = held; rows = (λ at. record { numbers = (at, (short, tt)); paired = refl }, tt) }
+packet_bounded t w packet None held short = record { held = held; rows = ((λ at. record { numbers = (at, (short, tt)); paired = refl }, refl), tt) }
 packet_bounded t w packet (Some c) held short = record { held = held; rows = tt }
 
 signal_bounded : (t : ℕ) (w : World) (line : ℕ) (owner : Option ℕ) → IsHeld t w.count (core w.book) → Keeps t w.count (signals line owner w)
@@ -62,8 +61,8 @@ happened t (what ∷ happens) w all bounded =
     happened t happens (after w (happen what w)) parts.1 (after_bounded t w (happen what w) bounded (happen_bounded t w what bounded.held parts.0))
 
 -- what is taken
-abbrev IsTakingSmall : Taking → Type 0
-IsTakingSmall x = (x.env ≤ 31) × (x.page ≤ most_number) × IfSome x.backup (λ (p : ℕ). p ≤ most_number)
+abbrev IsTakingSmall : ℕ → Taking → Type 0
+IsTakingSmall n x = (x.env < n) × (x.page ≤ most_number) × IfSome x.backup (λ (p : ℕ). p ≤ most_number)
 
 victims_small : (b : Books) (e count : ℕ) → ArePages count (victims_below b e count)
 victims_small b e count = below count (omega arith)
@@ -74,24 +73,24 @@ victims_small b e count = below count (omega arith)
         all_append (λ (p : ℕ). p < count) (victims_below b e page) _ (below page (omega (arith, less)))
         (cond_both (is_victim b e page) (page ∷ []) [] (ArePages count) (λ is. (omega (arith, less), tt)) (λ not. tt))
 
-paired_small : (count e : ℕ) (pages backups : List ℕ) → count ≤ 4096 → e ≤ 31 → ArePages count pages → ArePages count backups → AllByRecursion IsTakingSmall (paired e pages backups)
-paired_small count e [] backups few who all copies = tt
-paired_small count e (page ∷ pages) [] few who (here, all) copies = ((who, omega (arith, here, few), tt), paired_small count e pages [] few who all tt)
-paired_small count e (page ∷ pages) (backup ∷ backups) few who (here, all) (copy, copies) =
-    ((who, omega (arith, here, few), omega (arith, copy, few)), paired_small count e pages backups few who all copies)
+paired_small : (n count e : ℕ) (pages backups : List ℕ) → count ≤ 4096 → e < n → ArePages count pages → ArePages count backups → AllByRecursion (IsTakingSmall n) (paired e pages backups)
+paired_small n count e [] backups few who all copies = tt
+paired_small n count e (page ∷ pages) [] few who (here, all) copies = ((who, omega (arith, here, few), tt), paired_small n count e pages [] few who all tt)
+paired_small n count e (page ∷ pages) (backup ∷ backups) few who (here, all) (copy, copies) =
+    ((who, omega (arith, here, few), omega (arith, copy, few)), paired_small n count e pages backups few who all copies)
 
-takings_small : (t : ℕ) (w : World) (n : ℕ) → IsHeld t w.count (core w.book) → n ≤ w.count → AllByRecursion IsTakingSmall (takings_below (revocations w.book) w.book.time n)
+takings_small : (t : ℕ) (w : World) (n : ℕ) → IsHeld t w.count (core w.book) → n ≤ w.count → AllByRecursion (IsTakingSmall w.count) (takings_below (revocations w.book) w.book.time n)
 takings_small t w zero held less = tt
 takings_small t w (suc e) held less =
     let b = revocations w.book in
-    all_append IsTakingSmall (takings_below b w.book.time e) (takings_of b w.book.time e) (takings_small t w e held (omega (arith, less)))
-    (cond_both (is_due w.book.time (w.book.pending e)) (paired e (victims b e) (w.book.backups e)) [] (AllByRecursion IsTakingSmall)
+    all_append (IsTakingSmall w.count) (takings_below b w.book.time e) (takings_of b w.book.time e) (takings_small t w e held (omega (arith, less)))
+    (cond_both (is_due w.book.time (w.book.pending e)) (paired e (victims b e) (w.book.backups e)) [] (AllByRecursion (IsTakingSmall w.count))
     (λ due.
-    paired_small w.book.page_count e (victims b e) (w.book.backups e) held.pages (omega (arith, less, held.few))
+    paired_small w.count w.book.page_count e (victims b e) (w.book.backups e) held.pages (omega (arith, less))
     (all_take (λ (p : ℕ). p < w.book.page_count) (outstanding_in (w.book.pending e)) (victims_below b e w.book.page_count) (victims_small b e w.book.page_count)) (held.backups e))
     (λ later. tt))
 
-taking_bounded : (t : ℕ) (w : World) (x : Taking) → IsHeld t w.count (core w.book) → IsTakingSmall x → Keeps t w.count (takes x w)
+taking_bounded : (t : ℕ) (w : World) (x : Taking) → IsHeld t w.count (core w.book) → IsTakingSmall w.count x → Keeps t w.count (takes x w)
 taking_bounded t w x held small = record {
   held = record {
     few = held.few;
@@ -106,7 +105,7 @@ taking_bounded t w x held small = record {
     excess = held.excess;
     backups = λ i. set_each (ArePages w.book.page_count) x.env (drop 1 (w.book.backups x.env)) w.book.backups (all_drop (λ (p : ℕ). p < w.book.page_count) 1 (w.book.backups x.env) (held.backups x.env)) held.backups i;
   };
-  rows = (λ at. record { numbers = (at, (small.0, (small.1, (small.2, tt)))); paired = refl }, tt);
+  rows = ((λ at. record { numbers = (at, (omega (arith, small.0, held.few), (small.1, (small.2, tt)))); paired = refl }, lt-ltb x.env w.count small.0), tt);
 }
 
 abbrev behind : List (World → Reply)
@@ -121,9 +120,9 @@ rest_bounded granted t w soon bounded =
     let v = after u (step u) in
     let stepped = step_bounded granted t u turned in
     let timed = timer_bounded t v soon stepped.held in
-    record { held = timed.held; rows = all_append IsSmall v.rows (timer v).rows stepped.rows timed.rows }
+    record { held = timed.held; rows = all_append (IsRowOf w.count) v.rows (timer v).rows stepped.rows timed.rows }
 
-served : GrantedMay → (t : ℕ) (xs : List Taking) (w : World) → t + 1 ≤ most_run_ticks → AllByRecursion IsTakingSmall xs → IsBounded t w → IsBounded (t + 1) (run_phases w (tick_phases xs))
+served : GrantedMay → (t : ℕ) (xs : List Taking) (w : World) → t + 1 ≤ most_run_ticks → AllByRecursion (IsTakingSmall w.count) xs → IsBounded t w → IsBounded (t + 1) (run_phases w (tick_phases xs))
 served granted t [] w soon all bounded = rest_bounded granted t w soon bounded
 served granted t (x ∷ xs) w soon (here, all) bounded =
     served granted t xs (after w (takes x w)) soon all (after_bounded t w (takes x w) bounded (taking_bounded t w x bounded.held here))
@@ -176,13 +175,13 @@ owner_below n (None ∷ owners) zero all = tt
 owner_below n (Some e ∷ owners) zero (here, all) = (here, here)
 owner_below n (x ∷ owners) (suc k) (here, all) = owner_below n owners k all
 
-own_small : (n : ℕ) (owners : List (Option ℕ)) → n ≤ most_environments → length owners ≤ 64 → AllByRecursion (IsOwnerBelow n) owners → (count : ℕ) → count ≤ length owners → AllSmall (own_rows owners count)
+own_small : (n : ℕ) (owners : List (Option ℕ)) → n ≤ most_environments → length owners ≤ 64 → AllByRecursion (IsOwnerBelow n) owners → (count : ℕ) → count ≤ length owners → AllSmall n (own_rows owners count)
 own_small n owners few most all zero less = tt
 own_small n owners few most all (suc k) less =
-    all_append IsSmall (own_rows owners k) (own_row k (boot_slot owners k)) (own_small n owners few most all k (omega (arith, less)))
+    all_append (IsRowOf n) (own_rows owners k) (own_row k (boot_slot owners k)) (own_small n owners few most all k (omega (arith, less)))
     (by_hold (boot_slot owners k) (owner_below n owners k all))
   where
-    by_hold : (hold : Option Hold) → IsHoldBelow n hold → AllSmall (own_row k hold)
+    by_hold : (hold : Option Hold) → IsHoldBelow n hold → AllSmall n (own_row k hold)
     by_hold None below = tt
     by_hold (Some hold) below = (slot_small n 0 k (Some hold) few (omega (arith, less, most)) below, tt)
 

@@ -1,9 +1,9 @@
 -- Turns and the timer.
-use Rattle.std.proofs.Common.{arith, refl, ◌<◌, ◌≤◌, ◌+◌, ◌-◌, ◌%◌, ℕ, zero, suc, List, [], ◌∷◌, ◌++◌, map, Bool, true, false, Option, None, Some}
+use Rattle.std.proofs.Common.{arith, refl, ◌<◌, ◌≤◌, ◌+◌, ◌-◌, ◌%◌, ◌≡◌, ℕ, zero, suc, List, [], ◌∷◌, ◌++◌, map, Bool, true, false, Option, None, Some}
 use Rattle.std.specs.Prelude.{◌==◌, nat_lt, if◌then◌else◌}
 use Rattle.std.specs.List.{AllByRecursion}
 use Rattle.std.proofs.Math.Nat.{mod-lt}
-use Rattle.std.proofs.lemmas.Bool.{cond_both, ltb-false}
+use Rattle.std.proofs.lemmas.Bool.{cond_both, lt-ltb, ltb-false}
 use Rattle.aegis_limits.specs.Limits.{excess_limit}
 use Rattle.world_model.specs.declared.hold.Hold.{Hold}
 use Rattle.world_model.specs.declared.slot.Phase.{Phase}
@@ -21,8 +21,7 @@ use Rattle.world_model.specs.Table.{set_at}
 use Rattle.world_model.specs.Tick.{count_when, grace_of, handles_end, owes_more, pay_row, take_turn, timer, timer_reply, turn, turn_when}
 use Rattle.world_model.specs.Timer.{timer_at_end}
 use Rattle.world_model.specs.World.{World, after, tells}
-use Rattle.report_law.proofs.Rows.{IsSmall}
-use Rattle.report_law.proofs.Bounded.{AllSmall, IsHeld, IsHoldBelow, IsRunnerBelow, Keeps, all_append, core, set_each, slot_small, without_below}
+use Rattle.report_law.proofs.Bounded.{AllSmall, IsHeld, IsHoldBelow, IsRowOf, IsRunnerBelow, Keeps, all_append, core, set_each, slot_small, without_below}
 
 -- turns
 abbrev IsTurn : ℕ → ℕ → Turn → Type 0
@@ -69,9 +68,10 @@ turn_told n slots count (suc tries) cursor excess below there few =
     within_at n count (turn_from slots count tries) (λ c x inside small. turn_told n slots count tries c x below inside small) cursor excess (first_turn slots count cursor count) there few
     (first_within n slots count cursor count (omega (arith, there)) below)
 
-pays_small : (t n : ℕ) (w : World) (pays : List Turn) → IsHeld t n (core w.book) → AllByRecursion (IsTurn n w.book.slot_count) pays → AllSmall (map (pay_row w.book.time) pays)
+pays_small : (t n : ℕ) (w : World) (pays : List Turn) → IsHeld t n (core w.book) → AllByRecursion (IsTurn n w.book.slot_count) pays → AllSmall n (map (pay_row w.book.time) pays)
 pays_small t n w [] held all = tt
-pays_small t n w (p ∷ pays) held ((place, who), all) = (λ at. record { numbers = (at, (omega (arith, place, held.slot_count), (omega (arith, who, held.few), tt))); paired = refl }, pays_small t n w pays held all)
+pays_small t n w (p ∷ pays) held ((place, who), all) =
+    ((λ at. record { numbers = (at, (omega (arith, place, held.slot_count), (omega (arith, who, held.few), tt))); paired = refl }, lt-ltb p.env n who), pays_small t n w pays held all)
 
 taken : (t : ℕ) (w : World) (told : WholeTurn) → IsHeld t w.count (core w.book) → IsToldWithin w.count w.book.slot_count told → (o : Option Turn) → IfTurn w.count w.book.slot_count o → Keeps t w.count (take_turn w told o)
 taken t w told held within None is = record { held = held; rows = tt }
@@ -89,7 +89,8 @@ taken t w told held within (Some x) (place, who) = record {
     excess = within.excess;
     backups = held.backups;
   };
-  rows = all_append IsSmall (map (pay_row w.book.time) told.pays) _ (pays_small t w.count w told.pays held within.pays) (λ at. record { numbers = (at, (omega (arith, place, held.slot_count), (omega (arith, who, held.few), tt))); paired = refl }, tt);
+  rows = all_append (IsRowOf w.count) (map (pay_row w.book.time) told.pays) _ (pays_small t w.count w told.pays held within.pays)
+      ((λ at. record { numbers = (at, (omega (arith, place, held.slot_count), (omega (arith, who, held.few), tt))); paired = refl }, lt-ltb x.env w.count who), tt);
 }
 
 pub turn_bounded : (t : ℕ) (w : World) → IsHeld t w.count (core w.book) → Keeps t w.count (turn w)
@@ -103,11 +104,11 @@ turn_bounded t w held = by_runner w.book.runner
     by_runner None = taken t w (whole_turn w.book) held told (whole_turn w.book).runs told.runs
 
 -- deaths
-released_small : (n t e : ℕ) (slots : ℕ → Option Hold) (count : ℕ) → n ≤ 32 → count ≤ 64 → ((k : ℕ) → IsHoldBelow n (slots k)) → AllSmall (released_rows t e slots count)
+released_small : (n t e : ℕ) (slots : ℕ → Option Hold) (count : ℕ) → n ≤ 32 → count ≤ 64 → ((k : ℕ) → IsHoldBelow n (slots k)) → AllSmall n (released_rows t e slots count)
 released_small n t e slots zero few most below = tt
 released_small n t e slots (suc k) few most below =
-    all_append IsSmall (released_rows t e slots k) (released_row t e k (slots k)) (released_small n t e slots k few (omega (arith, most)) below)
-    (cond_both (has_part e (slots k)) (slot_row t k (hold_without e (slots k)) ∷ []) [] AllSmall
+    all_append (IsRowOf n) (released_rows t e slots k) (released_row t e k (slots k)) (released_small n t e slots k few (omega (arith, most)) below)
+    (cond_both (has_part e (slots k)) (slot_row t k (hold_without e (slots k)) ∷ []) [] (AllSmall n)
     (λ part. (slot_small n t k (hold_without e (slots k)) few (omega (arith, most)) (without_below n e (slots k) (below k)), tt)) (λ none. tt))
 
 -- an environment that owes more than it may is the one that dies
@@ -127,7 +128,7 @@ death_bounded t w e excess held few there = record {
     excess = few;
     backups = λ i. set_each (AllByRecursion (λ (page : ℕ). page < w.book.page_count)) e [] w.book.backups tt held.backups i;
   };
-  rows = (λ at. record { numbers = (at, (omega (arith, held.cursor, held.slot_count), (omega (arith, there, held.few), tt))); paired = refl }, released_small w.count w.book.time e w.book.slots w.book.slot_count held.few held.slot_count held.slots);
+  rows = ((λ at. record { numbers = (at, (omega (arith, held.cursor, held.slot_count), (omega (arith, there, held.few), tt))); paired = refl }, lt-ltb e w.count there), released_small w.count w.book.time e w.book.slots w.book.slot_count held.few held.slot_count held.slots);
 }
 
 -- the timer
@@ -156,6 +157,9 @@ module _ (t : ℕ) (w : World) (r : Runner) (held : IsHeld t w.count (core w.boo
   who : r.env ≤ 31
   who = omega (arith, there, held.few)
 
+  named : nat_lt r.env w.count ≡ true
+  named = lt-ltb r.env w.count there
+
   owed_more : w.book.excess r.env + 1 ≤ 9
   owed_more = omega (arith, held.excess r.env)
 
@@ -170,17 +174,17 @@ module _ (t : ℕ) (w : World) (r : Runner) (held : IsHeld t w.count (core w.boo
   killed =
       let v = after (after w (owes_more r.env w)) (tells r.env Killed (after w (owes_more r.env w))) in
       let dies = death_bounded t v r.env w.book.excess held buried there in
-      record { held = dies.held; rows = (λ at. record { numbers = (at, (place, (who, (owed_more, tt)))); paired = refl }, all_append IsSmall ((death v r.env).rows ++ []) [] (all_append IsSmall (death v r.env).rows [] dies.rows tt) tt) }
+      record { held = dies.held; rows = ((λ at. record { numbers = (at, (place, (who, (owed_more, tt)))); paired = refl }, named), all_append (IsRowOf w.count) ((death v r.env).rows ++ []) [] (all_append (IsRowOf w.count) (death v r.env).rows [] dies.rows tt) tt) }
 
   overs : (excess : ℕ) → w.book.excess r.env + 1 ≤ excess_limit → Keeps t w.count (timer_reply r (answer.Over excess) w)
   overs excess small = record {
     held = with_held (Some (grace_of w r.env)) more there (λ i. set_each (λ (x : ℕ). x ≤ excess_limit) r.env (w.book.excess r.env + 1) w.book.excess small held.excess i);
-    rows = (λ at. record { numbers = (at, (place, (who, (owed_more, tt)))); paired = refl }, tt);
+    rows = ((λ at. record { numbers = (at, (place, (who, (owed_more, tt)))); paired = refl }, named), tt);
   }
 
   ends : (has : Bool) → (p : Phase) → Keeps t w.count (timer_reply r (timer_at_end p has (w.book.excess r.env)) w)
-  ends true phase.Own = record { held = with_held (Some (grace_of w r.env)) w.book.excess there held.excess; rows = (λ at. record { numbers = (at, (place, (who, tt))); paired = refl }, tt) }
-  ends false phase.Own = record { held = with_held None w.book.excess tt held.excess; rows = (λ at. record { numbers = (at, (place, (who, tt))); paired = refl }, tt) }
+  ends true phase.Own = record { held = with_held (Some (grace_of w r.env)) w.book.excess there held.excess; rows = ((λ at. record { numbers = (at, (place, (who, tt))); paired = refl }, named), tt) }
+  ends false phase.Own = record { held = with_held None w.book.excess tt held.excess; rows = ((λ at. record { numbers = (at, (place, (who, tt))); paired = refl }, named), tt) }
   ends has phase.Grace =
       cond_both (nat_lt excess_limit (w.book.excess r.env + 1)) answer.Kill (answer.Over (w.book.excess r.env + 1)) (λ (a : Timer). Keeps t w.count (timer_reply r a w))
       (λ many. killed) (λ few. overs (w.book.excess r.env + 1) (ltb-false excess_limit (w.book.excess r.env + 1) few))
@@ -213,5 +217,5 @@ timer_bounded t w soon held =
         excess = h.excess;
         backups = h.backups;
       };
-      rows = all_append IsSmall (count_when w.book.runner w).rows [] keeps.rows tt;
+      rows = all_append (IsRowOf w.count) (count_when w.book.runner w).rows [] keeps.rows tt;
     }

@@ -38,7 +38,7 @@ use Rattle.report_law.proofs.Cuts.{line_then, words_cut, words_plain}
 use Rattle.report_law.proofs.Numbers.{if_all, then_read}
 use Rattle.report_law.proofs.Reading.{AreWithin, At, Has, Known, rest_is, row_text, rows_at, step_at, values_more, weaker, with_rows}
 use Rattle.report_law.proofs.Rows.{dec_solid, env_is, env_spells, known_line, other_is, other_spells, solid_plain, time_is, time_spells}
-use Rattle.report_law.proofs.Sections.{envs_pass}
+use Rattle.report_law.proofs.Sections.{envs_lead}
 
 -- rows as they are written
 numbers_are : (numbers : List (Option ℕ)) → flat_map (λ n. spaced (or_dash n)) numbers ≡ flat_map spaced (map or_dash numbers)
@@ -109,6 +109,7 @@ sums_at last from k rows (suc n) rest few each at =
     (λ number ledger has. record {
       idle = has.idle;
       time = has.time;
+      environments = has.environments;
       rows = has.rows;
       sums = values_more ledger.sums number (tally_of rows n) ∙ ap (λ (xs : List (List ℕ)). xs ++ tally_of rows n ∷ []) has.sums;
     }) here in
@@ -116,11 +117,11 @@ sums_at last from k rows (suc n) rest few each at =
 
 -- the title
 abbrev nothing : Known
-nothing = record { idle = false; time = 0; rows = []; sums = [] }
+nothing = record { idle = false; time = 0; environments = 0; rows = []; sums = [] }
 
 begin : (text : List ℕ) → At (end_of text) (ledger_read text) is_kind_none nothing text
 unfolding ledger_read
-begin text = record { last = kind.Nothing; passes = refl; ledger = no_ledger; has = record { idle = refl; time = refl; rows = refl; sums = refl }; number = 1; start = 0; same = refl }
+begin text = record { last = kind.Nothing; passes = refl; ledger = no_ledger; has = record { idle = refl; time = refl; environments = refl; rows = refl; sums = refl }; number = 1; start = 0; same = refl }
 
 title_at : (last : ℕ) (from : Result LedgerValue (LineFault LedgerWhy)) (rest : List ℕ) → At last from is_kind_none nothing (line (codes "aegis" ∷ codes "run" ∷ []) ++ rest) → At last from is_kind_title nothing rest
 title_at last from rest at =
@@ -164,7 +165,7 @@ end_at last from how w rest within at =
     let words = end_words how w.book.time in
     step_at last from is_kind_title is_kind_end nothing (record nothing { idle = says_idle how; time = w.book.time }) (end_body how w.book.time) rest (entry.End (says_idle how) w.book.time)
     (both 32 (codes "end") (flat_map spaced words) refl (words_plain words (solid_plain words (end_solid how w.book.time))))
-    (λ prior follows. end_line_said prior how w.book.time follows within) refl (λ number ledger has. record { idle = refl; time = refl; rows = has.rows; sums = has.sums })
+    (λ prior follows. end_line_said prior how w.book.time follows within) refl (λ number ledger has. record { idle = refl; time = refl; environments = has.environments; rows = has.rows; sums = has.sums })
     (rest_is last from is_kind_title nothing (line (codes "end" ∷ words) ++ rest) (end_body how w.book.time ++ 10 ∷ rest) (line_then (codes "end") words rest) at)
 
 -- what a text is read as in the end
@@ -177,7 +178,7 @@ done_at : (last : ℕ) (from : Result LedgerValue (LineFault LedgerWhy)) (k : Kn
 done_at last from k at =
     let at_end : At last from is_kind_done k [] =
     step_at last from before_sum is_kind_done k k (codes "done") [] (entry.Other kind.Done) refl
-    (λ prior follows. known_line prior kind.Done (codes "done") (entry.Other kind.Done) refl follows refl refl) refl (λ number ledger has. has) at in
+    (λ prior follows. known_line prior kind.Done (codes "done") (entry.Other kind.Done) refl follows refl refl) refl (λ number ledger has. record { idle = has.idle; time = has.time; environments = has.environments; rows = has.rows; sums = has.sums }) at in
     record { ledger = at_end.ledger; is = at_end.same ∙ cond-true (is_kind_done at_end.last) (Ok at_end.ledger) _ at_end.passes; has = at_end.has }
 
 env_row : (last : LineKind) → ends_env last ≡ true → before_row last ≡ true
@@ -190,7 +191,7 @@ row_sum last is = is
 
 -- what a world's report has
 abbrev pub known_of : World → RunEnd → Known
-known_of w how = record { idle = says_idle how; time = w.book.time; rows = w.rows; sums = listed (tally_of w.rows) w.count }
+known_of w how = record { idle = says_idle how; time = w.book.time; environments = w.count; rows = w.rows; sums = listed (tally_of w.rows) w.count }
 
 pub record IsShown (w : World) : Type 0 where
   pub time : IsTime w.book.time
@@ -216,12 +217,13 @@ parts_read back last from w how shown at =
     let k = record nothing { idle = says_idle how; time = w.book.time } in
     let titled = title_at last from (end_line w how ++ (envs ++ (rows ++ (sums ++ done)))) at in
     let ended = end_at last from how w (envs ++ (rows ++ (sums ++ done))) shown.time titled in
-    let shows = envs_pass last from k w w.count shown.named shown.some (rows ++ (sums ++ done)) ended in
-    let ready : At last from before_row k (flat_map row_text w.rows ++ (sums ++ done)) =
-    rest_is last from before_row k (rows ++ (sums ++ done)) (flat_map row_text w.rows ++ (sums ++ done)) (ap (λ (xs : List ℕ). xs ++ (sums ++ done)) (rows_are w.rows))
-    (weaker last from ends_env before_row k (rows ++ (sums ++ done)) env_row shows) in
-    let told = weaker last from before_row before_sum (with_rows k w.rows) (sums ++ done) row_sum (rows_at back last from k w.rows (sums ++ done) shown.rows ready) in
-    done_at last from (known_of w how) (sums_at last from (with_rows k w.rows) w.rows w.count done shown.few shown.counts told)
+    let shows = envs_lead last from k w w.count shown.named shown.some (rows ++ (sums ++ done)) ended in
+    let l = record k { environments = w.count } in
+    let ready : At last from before_row l (flat_map row_text w.rows ++ (sums ++ done)) =
+    rest_is last from before_row l (rows ++ (sums ++ done)) (flat_map row_text w.rows ++ (sums ++ done)) (ap (λ (xs : List ℕ). xs ++ (sums ++ done)) (rows_are w.rows))
+    (weaker last from ends_env before_row l (rows ++ (sums ++ done)) env_row shows) in
+    let told = weaker last from before_row before_sum (with_rows l w.rows) (sums ++ done) row_sum (rows_at back last from l w.rows (sums ++ done) shown.rows ready) in
+    done_at last from (known_of w how) (sums_at last from (with_rows l w.rows) w.rows w.count done shown.few shown.counts told)
 
 pub report_read : RowsAreReadBack → (w : World) (how : RunEnd) → IsShown w → ReadsTo (ledger_read (report_text w how)) (known_of w how)
 unfolding report_text

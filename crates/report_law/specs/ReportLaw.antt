@@ -1,6 +1,6 @@
 -- What a run writes is read as the run's ledger.
 use Rattle.std.specs.Prelude.{◌≡◌, ℕ, ◌≤◌, List, [], ◌∷◌, count_by, length, true, None, Ok}
-use Rattle.std.specs.List.{list_all}
+use Rattle.std.specs.List.{AllByRecursion, list_all}
 use Rattle.aegis_limits.specs.Limits.{most_run_ticks}
 use Rattle.boot_image.specs.Accepted.{IsAccepted}
 use Rattle.external_event.specs.EventValue.{is_occurrence}
@@ -13,6 +13,7 @@ use Rattle.run_report.specs.Report.{report_text}
 use Rattle.ledger_text.specs.LedgerText.{LedgerValue, ledger_read}
 use Rattle.ledger_audit.specs.declared.answer.AuditAnswer.TheVariants.{Clean}
 use Rattle.ledger_audit.specs.Answer.{audit_of}
+use Rattle.ledger_audit.specs.StrictRules.{are_there}
 use Rattle.ledger_law.specs.LedgerLaw.{IsOfRun}
 
 -- what happens in each tick is within its limits
@@ -32,13 +33,16 @@ abbrev pub values_of : {X : Type 0} → List (ℕ × X) → List X
 values_of [] = []
 values_of (x ∷ xs) = x.1 ∷ values_of xs
 
--- The bytes have no fault, and are read as a ledger of the run, with a sum for each environment of the image.
+-- The bytes have no fault, and are read as a ledger of the run, with the lines and a sum of each environment of the image;
+-- and its rows name no others.
 pub record IsRead (system : System) (limit : ℕ) : Type 0 where
   pub ledger : LedgerValue
   pub read : ledger_read (written system limit) ≡ Ok ledger
   pub of_run : IsOfRun system limit ledger
   pub sums : let w = world_after system limit in
       values_of ledger.sums ≡ listed (tally_of w.rows) (length system.image.programs)
+  pub environments : length ledger.environments ≡ length system.image.programs
+  pub named : AllByRecursion (λ (r : Row). are_there (length system.image.programs) r ≡ true) (world_after system limit).rows
 
 -- So it is for every image within its limits, every schedule of events within theirs, and every limit that a run may have.
 abbrev pub ReportsAreRead : Type 0

@@ -1,11 +1,11 @@
 mod Plain
-mod Fixed
+pub mod Fixed
 mod Requests
 mod Changes
 mod Happening
-mod Serving
+pub mod Serving
 mod Ticks
 mod Unasked
 mod Slow
 mod Relief
-mod Booting
+pub mod Booting

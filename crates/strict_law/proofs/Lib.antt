@@ -1,0 +1,5 @@
+mod Requests
+mod Replies
+mod Events
+mod Takings
+mod Runs
