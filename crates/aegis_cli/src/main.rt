@@ -1,9 +1,9 @@
-//! The program: `main` calls the top call once, with the host's files and its standard output.
+//! The program: `main` calls `program_over` once, with the process's words, the host's files and its standard output.
 #![tactic(auto)]
 
-use aegis_command::{Status, aegis};
+use aegis_command::Status;
 use aegis_limits::OutOfMemory;
-use edge_io::{HostShelf, HostSink};
+use aegis_program::program_over;
 use std::io::ErrorKind;
 use std::process::ExitCode;
 use std::rt::Env;
@@ -22,8 +22,6 @@ fn main(rt: HostRuntime) -> ExitCode {
     let Ok(words) = arguments(&rt) else {
         return ExitCode::from(Status::OutOfMemory.code());
     };
-    let mut shelf = HostShelf::new(rt.alloc(), &rt);
-    let mut out = HostSink::new(io::writer(&rt));
-    let status = aegis(rt.alloc(), &words, &mut shelf, &mut out);
-    ExitCode::from(status.code())
+    let ended = program_over(rt.alloc(), &words, &rt, io::writer(&rt));
+    ExitCode::from(ended.status.code())
 }

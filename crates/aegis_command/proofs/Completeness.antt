@@ -1,8 +1,13 @@
 -- From what holds by the status to what is written where no fault is met.
 use Rattle.std.proofs.Common.{◌≡◌, ◌≢◌, length, ℕ, List, [], ◌∷◌, ◌++◌, Option, Some, None, ◌⊎◌, inl, inr, sym, ◌∙◌, ap, refl, subst, take, IfSome, arith}
-use Rattle.std.specs.Prelude.{codes}
+use Rattle.std.specs.Prelude.{codes, slice_get, zero, suc}
+use Rattle.line_text.specs.declared.failure.LineFault.{LineFault}
+use Rattle.boot_image.specs.declared.fault.ImageFault.{ImageFault}
+use Rattle.boot_image.specs.Names.{image_why_text}
 use Rattle.boot_image.specs.ImageFaults.{image_fault}
 use Rattle.boot_image.specs.ImageValue.{image_of}
+use Rattle.boot_schedule.specs.declared.fault.ScheduleWhy.{ScheduleWhy}
+use Rattle.boot_schedule.specs.Names.{schedule_why_text}
 use Rattle.boot_schedule.specs.Schedule.{events_of, schedule_fault}
 use Rattle.commands.specs.declared.status.Status.{Status}
 use Rattle.commands.specs.declared.status.Status.TheVariants as status
@@ -10,10 +15,10 @@ use Rattle.commands.specs.declared.work.Answer.{Answer}
 use Rattle.commands.specs.Edges.{ShelfEdge, SinkEdge}
 use Rattle.commands.specs.Command.{CommandValue, names_of}
 use Rattle.commands.specs.Files.{AreRead, AreTold}
-use Rattle.commands.specs.Due.{Due, Refusal, Whole, Found, due_text, status_of}
+use Rattle.commands.specs.Due.{Due, Refusal, Whole, Found, due_text, refusal_text, status_of}
 use Rattle.commands.specs.Outcome.{Decided, IsWhole, IsPart, Outcome, Finished, Wrote}
 use Rattle.commands.specs.Work.{Performed}
-use Rattle.aegis_command.specs.Headline.{AsksRun, NoFault, Ends, IsComplete, IsHeadline, IsLoad, IsReadHeadline, TakesAll, IsWanting, WroteReport}
+use Rattle.aegis_command.specs.Headline.{AsksRun, NoFault, Ends, IsComplete, IsHeadline, IsLoad, TakesAll, IsWanting, BothRead, RunEnds, WroteReport, WroteRefusal, WrotePart, FailedToRead, due_of_both}
 use Rattle.std.specs.Io.KnownBytes.{Appends}
 use Rattle.std.specs.Option.{option_map}
 use Rattle.aegis_command.specs.Words.{command_of}
@@ -94,25 +99,12 @@ pub is_complete : (words : Option CommandValue) (s : ShelfEdge) (k : SinkEdge) (
 is_complete words s k result outcome c contents is told calm =
     ends c contents s k result (subst (λ (o : Option CommandValue). IfSome o (λ d. Outcome d s k result)) is outcome) told calm
 
--- what is due for an image and a schedule without fault
-due_whole : (names : FileNames) (ticks : ℕ) (image schedule : List ℕ) → image_fault image ≡ None → schedule_fault schedule ≡ None → Some (run_due names ticks image schedule) ≡ Some (Whole (report_after (image_of image) (events_of schedule) ticks))
-due_whole names ticks image schedule image_ok schedule_ok = rw (image_ok, schedule_ok) refl
-
 -- the words of a run are those of its command
 run_asked : (words : List (List ℕ)) (names : FileNames) (ticks : ℕ) → AsksRun words names.image names.schedule ticks → command_of words ≡ Some (run_image names ticks)
 run_asked words names ticks (number, inl run) =
     ap command_of run.0 ∙ ap (λ (t : Option ℕ). option_map (system_command names) (option_map run_writing t)) run.1
 run_asked words names ticks (number, inr long) =
     ap command_of long.0 ∙ ap (λ (t : Option ℕ). option_map (system_command names) (option_map run_writing t)) long.1
-
--- the headline is completeness for an image and a schedule without fault
-pub is_headline : (words : List (List ℕ)) (s : ShelfEdge) (k : SinkEdge) (result : Status) → IfSome (command_of words) (λ c. Outcome c s k result) → IsHeadline words s k result
-is_headline words s k result outcome image_name schedule_name ticks files image schedule asks told image_is schedule_is image_ok schedule_ok calm =
-    let names : FileNames = record { image = image_name; schedule = schedule_name } in
-    let is = run_asked words names ticks asks in
-    let due = due_whole names ticks image schedule image_ok schedule_ok in
-    let read : AreTold s.told (image_name ∷ schedule_name ∷ []) (image ∷ schedule ∷ []) = subst (λ (t : Option (List ℕ → Option (List ℕ))). AreTold t (image_name ∷ schedule_name ∷ []) (image ∷ schedule ∷ [])) (sym told) (image_is, (schedule_is, tt)) in
-    subst (λ (d : Option Due). Ends d k result) due (is_complete (command_of words) s k result outcome (run_image names ticks) (image ∷ schedule ∷ []) is read calm)
 
 -- what is read of two names is two contents
 two_contents : (told : Option (List ℕ → Option (List ℕ))) (one other : List ℕ) (contents : List (List ℕ)) → AreRead told (one ∷ other ∷ []) contents
@@ -122,33 +114,124 @@ two_contents told one other (a ∷ []) read = absurd read.1
 two_contents told one other (a ∷ b ∷ []) read = (a, b, refl)
 two_contents told one other (a ∷ b ∷ c ∷ contents) read = absurd read.1.1
 
--- what was written whole of a run is the report of what was read
-wrote_report : (names : FileNames) (ticks : ℕ) (s : ShelfEdge) (k : SinkEdge) (result : Status) (decided : Decided (run_image names ticks) s)
-    → status_of decided.due ≡ result → IsWhole k (due_text decided.due) → WroteReport names.image names.schedule ticks s k result
-wrote_report names ticks s k result decided settled whole =
-    let two = two_contents s.told names.image names.schedule decided.contents decided.read.read in
-    record {
-      image = two.0;
-      schedule = two.1;
-      names_read = decided.read.got.names_read;
-      contents_read = decided.read.got.contents_read ∙ ap (λ (contents : List (List ℕ)). s.before.contents ++ contents) two.2;
-      report = λ image_ok schedule_ok.
-          let text = report_after (image_of two.0) (events_of two.1) ticks in
-          let is : Some decided.due ≡ Some (Whole text) = sym decided.is_due ∙ ap (run_image names ticks).due two.2 ∙ due_whole names ticks two.0 two.1 image_ok schedule_ok in
-          let one : decided.due ≡ Whole text = cc in
-          (sym settled ∙ ap status_of one, subst (λ (d : Due). Appends k.written_before k.written_after (due_text d)) one whole.appended);
-    }
+-- the command of a run of two files
+abbrev run_of : (image_name schedule_name : List ℕ) → ℕ → CommandValue
+run_of image_name schedule_name ticks = run_image (record { image = image_name; schedule = schedule_name }) ticks
 
--- the headline by what was read
-pub is_read_headline : (words : List (List ℕ)) (s : ShelfEdge) (k : SinkEdge) (result : Status) → IfSome (command_of words) (λ c. Outcome c s k result) → IsReadHeadline words s k result
-is_read_headline words s k result outcome image_name schedule_name ticks asks calm =
-    let names : FileNames = record { image = image_name; schedule = schedule_name } in
-    let is = run_asked words names ticks asks in
-    let run = run_image names ticks in
-    elim (wrote run s k result (subst (λ (o : Option CommandValue). IfSome o (λ c. Outcome c s k result)) is outcome) calm) as (λ w. WroteReport image_name schedule_name ticks s k result ⊎ IsWanting k result) [
-      | inl w ↦ inl (wrote_report names ticks s k result w.0 w.1 w.2)
-      | inr w ↦ inr w
-    ]
+-- both files of a run were read once it was decided what is due, and it is due for what they have
+both_read : (i n : List ℕ) (ticks : ℕ) (s : ShelfEdge) (decided : Decided (run_of i n ticks) s)
+    → (both : BothRead i n s) × (decided.due ≡ due_of_both ticks both)
+both_read i n ticks s decided =
+    let two = two_contents s.told i n decided.contents decided.read.read in
+    let read : AreRead s.told (i ∷ n ∷ []) (two.0 ∷ two.1 ∷ []) = subst (AreRead s.told (i ∷ n ∷ [])) two.2 decided.read.read in
+    let is : Some decided.due ≡ Some (run_due (record { image = i; schedule = n }) ticks two.0 two.1) = sym decided.is_due ∙ ap (run_of i n ticks).due two.2 in (
+      record {
+        image = two.0;
+        schedule = two.1;
+        names_read = decided.read.got.names_read;
+        contents_read = decided.read.got.contents_read ∙ ap (λ (contents : List (List ℕ)). s.before.contents ++ contents) two.2;
+        image_told = read.0;
+        schedule_told = read.1.0;
+      },
+      cc,
+    )
+
+-- what may be due for two files: the report, where neither has a fault, or a refusal
+abbrev MayBeDue : (i n : List ℕ) → ℕ → (image schedule : List ℕ) → Type 0
+MayBeDue i n ticks image schedule =
+    ((image_fault image ≡ None) × (schedule_fault schedule ≡ None)
+    × (run_due (record { image = i; schedule = n }) ticks image schedule ≡ Whole (report_after (image_of image) (events_of schedule) ticks)))
+    ⊎ ((text : List ℕ) × (run_due (record { image = i; schedule = n }) ticks image schedule ≡ Refusal text))
+
+may_be_due : (i n : List ℕ) (ticks : ℕ) (image schedule : List ℕ) → MayBeDue i n ticks image schedule
+may_be_due i n ticks image schedule = by_faults (image_fault image) (schedule_fault schedule) refl refl
+  where
+    by_faults : (f : Option ImageFault) (g : Option (LineFault ScheduleWhy)) → image_fault image ≡ f → schedule_fault schedule ≡ g
+        → MayBeDue i n ticks image schedule
+    by_faults None None p q = inl (p, q, rw (p, q) refl)
+    by_faults None (Some g) p q = inr (refusal_text n (schedule_why_text g.why) g.line, rw (p, q) refl)
+    by_faults (Some f) g p q = inr (refusal_text i (image_why_text f.why) f.place, rw p refl)
+
+not_done : status.Refused ≢ status.Done
+not_done w = cc
+
+not_refused : status.Done ≢ status.Refused
+not_refused w = cc
+
+not_found_done : status.Done ≢ status.Found
+not_found_done w = cc
+
+not_found_refused : status.Refused ≢ status.Found
+not_found_refused w = cc
+
+not_found : (due : Due) (text : List ℕ) → (due ≡ Whole text) ⊎ (due ≡ Refusal text) → status_of due ≢ status.Found
+not_found due text (inl is) w = not_found_done (sym (ap status_of is) ∙ w)
+not_found due text (inr is) w = not_found_refused (sym (ap status_of is) ∙ w)
+
+-- a run that is done wrote the report
+done : (i n : List ℕ) (ticks : ℕ) (s : ShelfEdge) (k : SinkEdge) (both : BothRead i n s) (due : Due) → due ≡ due_of_both ticks both
+    → status_of due ≡ status.Done → IsWhole k (due_text due) → MayBeDue i n ticks both.image both.schedule → WroteReport i n ticks s k
+done i n ticks s k both due is settled whole (inl report) = record {
+  both = both;
+  sound_image = report.0;
+  sound_schedule = report.1;
+  whole = subst (λ (d : Due). IsWhole k (due_text d)) (is ∙ report.2) whole;
+}
+done i n ticks s k both due is settled whole (inr refusal) = absurd (not_done (sym (ap status_of (is ∙ refusal.1)) ∙ settled))
+
+-- one that is refused wrote the refusal
+denied : (i n : List ℕ) (ticks : ℕ) (s : ShelfEdge) (k : SinkEdge) (both : BothRead i n s) (due : Due) → due ≡ due_of_both ticks both
+    → status_of due ≡ status.Refused → IsWhole k (due_text due) → MayBeDue i n ticks both.image both.schedule → WroteRefusal i n ticks s k
+denied i n ticks s k both due is settled whole (inl report) = absurd (not_refused (sym (ap status_of (is ∙ report.2)) ∙ settled))
+denied i n ticks s k both due is settled whole (inr refusal) = record {
+  both = both;
+  text = refusal.0;
+  is_due = refusal.1;
+  whole = subst (λ (d : Due). IsWhole k (due_text d)) (is ∙ refusal.1) whole;
+}
+
+-- no run finds anything
+never_found : (i n : List ℕ) (ticks : ℕ) (image schedule : List ℕ) (due : Due) → due ≡ run_due (record { image = i; schedule = n }) ticks image schedule
+    → MayBeDue i n ticks image schedule → status_of due ≢ status.Found
+never_found i n ticks image schedule due is (inl report) = not_found due _ (inl (is ∙ report.2))
+never_found i n ticks image schedule due is (inr refusal) = not_found due refusal.0 (inr (is ∙ refusal.1))
+
+-- a place of two names has one of them
+one_of_two : (a b name : List ℕ) (place : ℕ) → slice_get (a ∷ b ∷ []) place ≡ Some name → (name ≡ a) ⊎ (name ≡ b)
+one_of_two a b name zero is = inl cc
+one_of_two a b name (suc zero) is = inr cc
+one_of_two a b name (suc (suc place)) is = absurd cc
+
+-- how a run ends, by its outcome
+run_ends : (i n : List ℕ) (ticks : ℕ) (s : ShelfEdge) (k : SinkEdge) (result : Status) → Outcome (run_of i n ticks) s k result → RunEnds i n ticks s k result
+run_ends i n ticks s k status.Done w =
+    let read = both_read i n ticks s w.0 in
+    done i n ticks s k read.0 w.0.due read.1 w.1 w.2 (may_be_due i n ticks read.0.image read.0.schedule)
+run_ends i n ticks s k status.Found w =
+    let read = both_read i n ticks s w.0 in
+    absurd (never_found i n ticks read.0.image read.0.schedule w.0.due read.1 (may_be_due i n ticks read.0.image read.0.schedule) w.1)
+run_ends i n ticks s k status.Usage w = absurd w
+run_ends i n ticks s k status.Refused w =
+    let read = both_read i n ticks s w.0 in
+    denied i n ticks s k read.0 w.0.due read.1 w.1 w.2 (may_be_due i n ticks read.0.image read.0.schedule)
+run_ends i n ticks s k status.ReadFault w = record {
+  name = w.0.name;
+  is_one = one_of_two i n w.0.name (length w.0.came.contents) w.0.came.is_next;
+  failed = w.0.failed;
+  last = w.0.last;
+  fault = w.0.fault;
+  untouched = w.1;
+}
+run_ends i n ticks s k status.WriteFault w =
+    let read = both_read i n ticks s w.0 in
+    record { both = read.0; part = subst (λ (d : Due). IsPart k (due_text d)) read.1 w.1 }
+run_ends i n ticks s k status.OutOfMemory w = w.1
+
+-- the headline is the outcome of the words of a run
+pub is_headline : (words : List (List ℕ)) (s : ShelfEdge) (k : SinkEdge) (result : Status) → IfSome (command_of words) (λ c. Outcome c s k result) → IsHeadline words s k result
+is_headline words s k result outcome image_name schedule_name ticks asks =
+    let is = run_asked words (record { image = image_name; schedule = schedule_name }) ticks asks in
+    run_ends image_name schedule_name ticks s k result (subst (λ (o : Option CommandValue). IfSome o (λ c. Outcome c s k result)) is outcome)
 
 -- no due status is that of a fault of writing
 due_status : (due : Due) → status_of due ≢ status.WriteFault

@@ -2,7 +2,7 @@
 ghost use Rattle.std.specs.Prelude.{◌≡◌, IfNone, length};
 ghost use Rattle.commands.specs.Edges.{shelf_edge, sink_edge};
 ghost use Rattle.commands.specs.Outcome.{Finished, IsOutcome, IsUsage};
-ghost use Rattle.aegis_command.specs.Headline.{IsComplete, IsDenied, IsGiven, IsHeadline, IsLoad, IsReadHeadline, TakesAll};
+ghost use Rattle.aegis_command.specs.Headline.{IsComplete, IsDenied, IsGiven, IsHeadline, IsLoad, TakesAll};
 ghost use Rattle.aegis_command.specs.Words.{asked_by, texts_of};
 
 use crate::words::{parse, perform_words};
@@ -52,11 +52,8 @@ pub fn aegis<S: Shelf, K: Sink>(
     shelf: &mut S,
     out: &mut K,
 ) -> Status
-    // The headline: what run and long write is the report of the world.
+    // The headline: what run and long write is the report of the world, by the status, of what was read in the call.
     ensures headline { IsHeadline (texts_of words.now) (shelf_edge S.Shelf shelf.old shelf.new) (sink_edge K.Sink out.old out.new) result }
-
-    // The same by what was read, also where the shelf tells nothing of its files, as the host's.
-    ensures read { IsReadHeadline (texts_of words.now) (shelf_edge S.Shelf shelf.old shelf.new) (sink_edge K.Sink out.old out.new) result }
 
     // What load writes is a run in short, of the image and the schedule that its number gives. It is never refused.
     ensures load { IsLoad (texts_of words.now) (shelf_edge S.Shelf shelf.old shelf.new) (sink_edge K.Sink out.old out.new) result }

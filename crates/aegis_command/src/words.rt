@@ -35,7 +35,7 @@ pub enum Words<'a> {
     MakeImage(MakeImage<'a>),
     /// `load SEED`.
     LoadSeed(LoadSeed),
-    /// `audit REPORT QUANTUM`, and a plan or none.
+    /// `audit REPORT QUANTUM`, and a plan or none, and `strict` or not.
     AuditLedger(AuditLedger<'a>),
     /// `trace IMAGE SCHEDULE TICKS ENV`, and `FROM` or none.
     TraceEnv(SystemCommand<'a, Trace>),

@@ -13,7 +13,8 @@ use std::io::Read;
 /// read it keeps.
 #[derive(Drop)]
 pub struct HostShelf<D: Folder> {
-    folder: D,
+    /// Where its files are opened.
+    pub folder: D,
     /// Its reads.
     pub kept: Readings,
 }
@@ -21,7 +22,8 @@ pub struct HostShelf<D: Folder> {
 impl<D: Folder> HostShelf<D> {
     /// A shelf over this folder, with no read so far.
     pub fn new(alloc: Global, folder: D) -> HostShelf<D>
-        ensures { readings_seen result.kept ≡ no_readings }
+        ensures folder { result.folder ≡ folder }
+        ensures nothing_read { readings_seen result.kept ≡ no_readings }
     {
         HostShelf {
             folder,

@@ -20,8 +20,8 @@ pub struct MemoryShelf {
     pub kept: Readings,
 }
 
-// The bytes of the first file of this name.
-fn file_named<'a>(files: &'a [(String, Vec<u8>)], name: &str) -> Option<&'a [u8]>
+/// The bytes of the first file of this name.
+pub(crate) fn file_named<'a>(files: &'a [(String, Vec<u8>)], name: &str) -> Option<&'a [u8]>
     ensures { option_copied result ≡ file_named files.now name.now }
 {
     files

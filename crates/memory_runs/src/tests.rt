@@ -8,6 +8,8 @@ use std::alloc::{AllocError, Global};
 use std::test::Fail;
 use world_model::WorldView;
 
+mod program;
+
 /// A program that exits with 7 in its third tick.
 const SOURCE: &[u8] = b"ori $4, $0, 7\nori $2, $0, 2\nsyscall\n";
 
