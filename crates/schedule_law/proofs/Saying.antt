@@ -1,6 +1,6 @@
 -- What a line says is within its limits.
-use Rattle.std.proofs.Common.{◌≡◌, ◌-◌, ℕ, List, [], ◌∷◌, map, Bool, true, false, Option, None, Some, Result, Ok, Err, refl, ◌∙◌, ap, subst, arith}
-use Rattle.std.specs.Prelude.{◌==◌, ◌&&◌, if◌then◌else◌, filter, nat_le, nat_lt}
+use Rattle.std.proofs.Common.{◌≡◌, ◌-◌, ℕ, zero, suc, List, [], ◌∷◌, map, Bool, true, false, Option, None, Some, Result, Ok, Err, refl, sym, ◌∙◌, ap, subst, arith}
+use Rattle.std.specs.Prelude.{◌==◌, ◌&&◌, if◌then◌else◌, filter, nat_le, nat_lt, slice_get}
 use Rattle.std.specs.List.{cons_option, list_all}
 use Rattle.std.specs.Option.{ok_or, option_and_then}
 use Rattle.std.specs.Result.{result_ok}
@@ -23,7 +23,7 @@ use Rattle.boot_schedule.specs.Forms.{EventWords, PacketWords, LineWords, Revoke
 use Rattle.boot_schedule.specs.Saying.{bytes_said, event_at, in_range, said, words_said}
 use Rattle.boot_schedule.specs.Schedule.{event_said, events_of, events_said}
 use Rattle.world_model.specs.Event.{schedule_of}
-use Rattle.schedule_law.specs.Limits.{EventsAreWithin, SchedulesAreWithin}
+use Rattle.schedule_law.specs.Limits.{EventsAreWithin, SaidIsWithinLimits, SchedulesAreWithin}
 
 -- both hold
 and_true : (a b : Bool) → a ≡ true → b ≡ true → (a && b) ≡ true
@@ -162,3 +162,12 @@ occurs_within (x ∷ events) t all = by_time (x.time == t) (occurs_within events
 
 pub schedules_are_within : SchedulesAreWithin
 schedules_are_within text t = occurs_within (events_of text) t (events_are_within text)
+
+-- so with each of them
+one_of : {A : Type 0} (p : A → Bool) (xs : List A) (k : ℕ) (x : A) → list_all p xs ≡ true → slice_get xs k ≡ Some x → p x ≡ true
+one_of p [] k x all is = cc
+one_of p (y ∷ xs) zero x all is = let same : y ≡ x = cc in ap p (sym same) ∙ (and_parts (p y) (list_all p xs) all).0
+one_of p (y ∷ xs) (suc k) x all is = one_of p xs k x (and_parts (p y) (list_all p xs) all).1 is
+
+pub said_is_within_limits : SaidIsWithinLimits
+said_is_within_limits text tick k what is = one_of is_occurrence (schedule_of (events_of text) tick) k what (schedules_are_within text tick) is

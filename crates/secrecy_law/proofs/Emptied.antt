@@ -12,7 +12,11 @@ use Rattle.world_model.specs.declared.life.Cause.{Cause}
 use Rattle.world_model.specs.declared.life.Life.{Life}
 use Rattle.world_model.specs.declared.life.Life.TheVariants.{Live, Dead}
 use Rattle.world_model.specs.declared.slot.Runner.{Runner}
+use Rattle.revocation_book.specs.declared.revocation.Pending.{Pending}
 use Rattle.world_model.specs.Book.{is_runner}
+use Rattle.world_model.specs.LineCalls.{is_line_of}
+use Rattle.call_verdicts.specs.Granted.{GrantedMay}
+use Rattle.secrecy_law.proofs.Living.{are_of_living}
 use Rattle.world_model.specs.Deadlines.{settles, takes}
 use Rattle.world_model.specs.Event.{happen}
 use Rattle.world_model.specs.Tick.{step, timer, turn}
@@ -124,8 +128,8 @@ runs_not : (e : ℕ) (o : Option Runner) → ((r : Runner) → o ≡ Some r → 
 runs_not e None others = refl
 runs_not e (Some r) others = ne_eqb r.env e (others r refl)
 
-pub dead_have_nothing : TicksKeepAccounts → BooksAgree → BackupsAreOwned → BootsAccounted → ClaimsAgree → DeadHaveNothing
-dead_have_nothing keep agree backups boots claims system t e cause died =
+pub dead_have_nothing : GrantedMay → TicksKeepAccounts → BooksAgree → BackupsAreOwned → BootsAccounted → ClaimsAgree → DeadHaveNothing
+dead_have_nothing granted keep agree backups boots claims system t e cause died =
     let w = world_after system t in
     let b = w.book in
     let empty = empty_dead system t e cause died in
@@ -134,16 +138,27 @@ dead_have_nothing keep agree backups boots claims system t e cause died =
     let owns : (page : ℕ) → is_owned_by e (b.pages page) ≡ false =
     λ page. owned_seen (is_owned_by e (b.pages page)) (is_bound page (b.binds e)) (page_bytes w page) (sym (agreed.seen page) ∙ empty.seen page) in
     let lives_not : (n : ℕ) → (w.solos n).life ≡ Live → n ≢ e = λ n lives same. (let clash : Live ≡ Dead cause = sym lives ∙ ap (λ (m : ℕ). (w.solos m).life) same ∙ died in cc) in
+    let holders = are_of_living granted system t 0 in
     record {
       owns = owns;
       sees = empty.seen;
       binds = λ row. sym (agreed.binds row) ∙ empty.binds row;
       claims = no_members claim_page (filter (is_of_env e) b.claims) (sym (ap (map ring_page) empty.rings) ∙ claims system t e);
       backups = λ page. none_loaded page (is_loaded (b.backups e) page) refl (owns page);
+      lines = λ line. no_line line (w.book.lines line) refl (λ owner is. lives_not owner (holders.lines line owner is));
+      pending = no_pending (w.book.pending e) refl (λ p is. lives_not e (holders.pending e p is) refl);
       slots = λ k hold is. (lives_not hold.owner (accounted.slots_live k hold is).0, lives_not hold.holder (accounted.slots_live k hold is).1);
       rests = runs_not e b.runner (λ r is. lives_not r.env (accounted.runner_lives r is));
     }
   where
+    no_line : (line : ℕ) (o : Option ℕ) → (world_after system t).book.lines line ≡ o → ((owner : ℕ) → (world_after system t).book.lines line ≡ Some owner → owner ≢ e) → is_line_of e o ≡ false
+    no_line line None is other = refl
+    no_line line (Some owner) is other = ne_eqb owner e (other owner is)
+
+    no_pending : (o : Option Pending) → (world_after system t).book.pending e ≡ o → ((p : Pending) → (world_after system t).book.pending e ≡ Some p → ⊥) → (world_after system t).book.pending e ≡ None
+    no_pending None is never = is
+    no_pending (Some p) is never = absurd (never p is)
+
     none_loaded : (page : ℕ) (loaded : Bool) → is_loaded ((world_after system t).book.backups e) page ≡ loaded → is_owned_by e ((world_after system t).book.pages page) ≡ false → loaded ≡ false
     none_loaded page false is none = refl
     none_loaded page true is none = let clash : true ≡ false = sym ((backups system t).owned e page is) ∙ none in cc

@@ -1,2 +1,3 @@
 mod Seeing
+mod Living
 mod Emptied

@@ -2,6 +2,7 @@
 ghost use Rattle.secrecy_law.specs.Dead.{DeadHaveNothing};
 ghost use Rattle.secrecy_law.specs.Secrecy.{FreeIsUnseen, FreedIsUnseen, RecappedIsUnseen, SeenByRight};
 
+use call_verdicts::law_granted;
 use run_model::{law_accounts, law_boot_accounts, law_moments};
 use sharing_law::{law_agreement, law_backups, law_bound, law_claims, law_live};
 
@@ -19,7 +20,8 @@ pub fn law_who_sees()
     law_moments();
 }
 
-/// A dead environment owns no page and sees none, has no binding, claim, backup or slot, and doesn't run.
+/// A dead environment owns no page and sees none, has no binding, claim, backup, interrupt line or slot, is asked for no
+/// page, and doesn't run.
 pub fn law_dead()
     ensures { DeadHaveNothing }
 {
@@ -28,4 +30,5 @@ pub fn law_dead()
     law_backups();
     law_boot_accounts();
     law_claims();
+    law_granted();
 }

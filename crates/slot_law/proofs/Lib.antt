@@ -1,1 +1,3 @@
 mod Owning
+mod Changing
+mod Leaving

@@ -52,7 +52,7 @@ serving_core : (xs : List Taking) (v : World) → core (run_phases v (serve_phas
 serving_core [] v = refl
 serving_core (x ∷ xs) v = serving_core xs (after v (takes x v))
 
-turn_core : (system : System) (t : ℕ) → core (at_turn system t).book ≡ core (world_after system t).book
+pub turn_core : (system : System) (t : ℕ) → core (at_turn system t).book ≡ core (world_after system t).book
 turn_core system t =
     let w = world_after system t in
     let v = once_happened system.schedule w in
@@ -63,7 +63,7 @@ taken_slots : (v : World) (o : Option Turn) → (take_turn v (whole_turn v.book)
 taken_slots v None = refl
 taken_slots v (Some t) = refl
 
-turn_slots : (v : World) (o : Option Runner) → (turn_when v o).book.slots ≡ v.book.slots
+pub turn_slots : (v : World) (o : Option Runner) → (turn_when v o).book.slots ≡ v.book.slots
 turn_slots v (Some r) = refl
 turn_slots v None = taken_slots v (whole_turn v.book).runs
 
@@ -77,13 +77,13 @@ without_owner gone e (Some hold) other owns =
     ap (λ (b : Bool). owner_of (if b then None else rest)) spared
     ∙ cond_both (hold.holder == gone) (Some (own_hold hold.owner)) (Some hold) (λ (o : Option Hold). owner_of o ≡ Some e) (λ gives. owns) (λ stays. owns)
 
-stepped_dies : (s : Solo) (cause : Cause) → act_of s (step_alone s) ≡ Dies cause → (absorb s Step).life ≡ Live → ⊥
+pub stepped_dies : (s : Solo) (cause : Cause) → act_of s (step_alone s) ≡ Dies cause → (absorb s Step).life ≡ Live → ⊥
 stepped_dies s cause is =
     cond_both (is_dead s.life) s (stepped s (step_alone s)) (λ (t : Solo). t.life ≡ Live → ⊥)
     (λ gone lives. let never : true ≡ false = sym gone ∙ ap is_dead lives in cc)
     (λ alive lives. let never : Dead cause ≡ Live = sym (ap (λ (act : Act). (acted act (record s { cpu = cpu_after s.cpu (step_alone s) })).life) is) ∙ lives in cc)
 
-killed_not : (s : Solo) → (absorb s Killed).life ≡ Live → ⊥
+pub killed_not : (s : Solo) → (absorb s Killed).life ≡ Live → ⊥
 killed_not s =
     cond_both (is_dead s.life) s (dead cause.Excess s) (λ (t : Solo). t.life ≡ Live → ⊥) (λ gone lives. let never : true ≡ false = sym gone ∙ ap is_dead lives in cc) (λ alive lives. cc)
 

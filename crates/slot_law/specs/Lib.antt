@@ -1,1 +1,3 @@
 pub mod SlotLaw
+pub mod SlotChange
+pub mod TurnLeaves

@@ -8,6 +8,7 @@ use Rattle.run_report.specs.Report.{env_text}
 use Rattle.twin_run.specs.declared.answer.TwinAnswer.TheVariants.{FeedsDiffer}
 use Rattle.twin_run.specs.Answer.{answer_by, compared, end_in_time, first_difference, twin_answer}
 use Rattle.twin_run.specs.ItemText.{is_alike}
+use Rattle.limits_law.specs.Fit.{ItemsAreFit}
 use Rattle.twin_law.specs.TwinAnswers.{IsFirstDifference, TwinNamesFirst, seen_at}
 use Rattle.twin_law.proofs.Alike.{alike_same, alike_self}
 
@@ -65,12 +66,13 @@ both_same views (Some x) None left right is = absurd (cc)
 both_same views (Some x) (Some y) left right is =
     let shown : item_seen x ≡ item_seen y = cc in ap (λ (z : Item). Some z) (views x y (left x refl) (right y refl) shown)
 
-pub first_differs : AlikeWhereShownAlike → (xs ys : List Item) (k : ℕ) → first_difference xs ys ≡ Some k → IsFirstDifference xs ys k
-first_differs views xs ys k is =
-    let found = first_found xs ys k is in
+pub first_differs : AlikeWhereShownAlike → ItemsAreFit → (left right : System) (e t u index : ℕ) → first_difference (feed left e t) (feed right e u) ≡ Some index → IsFirstDifference left right e t u index
+first_differs views fit left right e t u index is =
+    let found = first_found (feed left e t) (feed right e u) index is in
     record {
       shown_same = found.alike;
-      same = λ left right i less. both_same views (slice_get xs i) (slice_get ys i) (left i) (right i) (found.alike i less);
+      same = λ accepted also i less.
+          both_same views (slice_get (feed left e t) i) (slice_get (feed right e u) i) (λ x at. fit left e t i x accepted at) (λ y at. fit right e u i y also at) (found.alike i less);
       differ = found.differ;
     }
 
@@ -84,9 +86,9 @@ pub settled : (left right : System) (e n most t u : ℕ) → end_in_time left e 
 settled left right e n most t u left_end right_end =
     ap (λ (o : Option ℕ). answer_by left right e most o (end_in_time right e n most)) left_end ∙ ap (λ (o : Option ℕ). answer_by left right e most (Some t) o) right_end
 
-pub names_first : AlikeWhereShownAlike → TwinNamesFirst
-names_first views left right e n most t u index left_text right_text left_end right_end is =
+pub names_first : AlikeWhereShownAlike → ItemsAreFit → TwinNamesFirst
+names_first views fit left right e n most t u index left_text right_text left_end right_end is =
     let xs = feed left e t in
     let ys = feed right e u in
-    first_differs views xs ys index
+    first_differs views fit left right e t u index
     (place_named xs ys (env_text (world_after left t) e) left_text right_text index (first_difference xs ys) (sym (settled left right e n most t u left_end right_end) ∙ is))

@@ -3,6 +3,7 @@ ghost use Rattle.twin_law.specs.TwinAnswers.{TwinNamesFirst, TwinOfQuiet, TwinSh
 ghost use Rattle.twin_law.specs.TwoRuns.{QuietIsLeftAlike, TwoRunsLeaveSame, TwoRunsShowSame};
 
 use feed_log::law_views;
+use limits_law::law_items_are_fit;
 use quiet_law::{law_quiet, law_quiet_each_tick, law_quiet_text};
 use run_model::law_alone;
 use sharing_law::{law_agreement, law_pages_end};
@@ -31,9 +32,11 @@ pub fn law_twin_of_quiet()
     law_quiet_text();
 }
 
-/// The place that is named as a difference of two feeds is the first one.
+/// The place that is named as a difference of two feeds is the first one: below it the items are shown alike, and are the
+/// same in runs of accepted images.
 pub fn law_first_difference()
     ensures { TwinNamesFirst }
 {
+    law_items_are_fit();
     law_views();
 }

@@ -1,0 +1,9 @@
+mod Solos
+mod Frames
+mod Whole
+mod Wired
+mod Places
+mod Registers
+mod Fit
+mod Drops
+mod Numbers
