@@ -153,7 +153,7 @@ def shared(lines: List[str], at: int, it: Function) -> str:
 
 
 def contract(lines: List[str], at: int, it: Function) -> int:
-    """Takes in the clauses behind a function's head, and answers the last line of them."""
+    """Takes in the clauses after a function's head, and answers the last line of them."""
     last = at
     while at < len(lines):
         line = lines[at]
