@@ -186,11 +186,28 @@ def without_blanks(folder: str, room: str, link: str) -> str:
     return link
 
 
+def is_over_library(path: str) -> bool:
+    """Whether a source in C is a program over the library of examples/libexos: by itself or by a header, it includes the library's."""
+    words = [COMPILER, "-MM", "-MG", "-iquote", os.path.dirname(os.path.abspath(path)), f"-I{ROOT}/examples/libexos", f"-I{ROOT}/examples/c", path]
+    found = subprocess.run(words, stdout=subprocess.PIPE, stderr=subprocess.DEVNULL).stdout
+    return re.search(rb"(^|[\s/])exos\.h\s", found) is not None
+
+
 def made(path: str, room: str, target: str) -> subprocess.CompletedProcess[bytes]:
-    """Has the examples' Makefile make this of a program in C."""
+    """Has the examples' Makefile make this of a program in C, or the library's, where it is a program over the library."""
     beside = without_blanks(os.path.dirname(os.path.abspath(path)), room, "beside.link")
-    examples = without_blanks(f"{ROOT}/examples/c", room, "examples.link")
-    words = ["make", "-s", "-f", f"{examples}/Makefile", f"CPPFLAGS=-iquote {beside}", target]
+    examples = without_blanks(f"{ROOT}/examples", room, "examples.link")
+    makefile = f"{examples}/{'libexos' if is_over_library(path) else 'c'}/Makefile"
+    words = ["make", "-s", "-f", makefile, f"CPPFLAGS=-iquote {beside}", target]
+    return subprocess.run(words, cwd=room, stdout=subprocess.PIPE, stderr=subprocess.STDOUT)
+
+
+def made_of(path: str, room: str, targets: List[str], sources: str, library: List[str]) -> subprocess.CompletedProcess[bytes]:
+    """Has the library's Makefile make these of sources in a folder and of some of its own files. Headers are found beside `path` too."""
+    beside = without_blanks(os.path.dirname(os.path.abspath(path)), room, "beside.link")
+    examples = without_blanks(f"{ROOT}/examples", room, "examples.link")
+    words = ["make", "-s", f"-j{os.cpu_count() or 1}", "-f", f"{examples}/libexos/Makefile", f"SOURCES={sources}", f"SERVERS={examples}/c/start.s",
+             f"LIBRARY={' '.join(f'{examples}/libexos/{it}' for it in library)}", f"CPPFLAGS=-iquote . -iquote {beside}", *targets]
     return subprocess.run(words, cwd=room, stdout=subprocess.PIPE, stderr=subprocess.STDOUT)
 
 
