@@ -31,7 +31,7 @@ enum { ASH_LENGTH = 4, ASH_CLAIM = 5, ASH_PAGE = 0x1000, ASH_MOST = 64 };
 #define ASH_END 13u
 
 /* Gives a claim its handler, whose words lie in one page: the code is AEGIS_BAD_HANDLER and the value the place of the first bad word,
-   if there is one. One call, handler. */
+   if there is one. A handler: 9 ticks. */
 #define ash_load(claim, words) aegis_handler(claim, words, sizeof(words) / sizeof *(words))
 
 #endif

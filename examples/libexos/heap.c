@@ -15,7 +15,7 @@ static struct piece *piece_at(char *place)
     return (struct piece *)(place + GRAIN - HEAD);
 }
 
-/* Gives the heap its memory, which has to be a multiple of 8 bytes: 17 ticks. */
+/* Gives the heap its memory, of 16 bytes at least from a multiple of 8 on: 17 ticks. */
 void heap_begin(void *memory, exos_size size)
 {
     first = look = memory;
@@ -90,7 +90,7 @@ void *calloc(exos_size count, exos_size size)
 }
 
 /* The same bytes in a piece of another size, which stays where it is if it is large enough: 327 ticks where 100 bytes move. Where there
-   is no room it answers 0, and the piece stays. The memory has to be a piece, or 0. */
+   is no room it answers 0, and the piece stays. The memory has to be a piece, or 0: one that was given back is had twice. */
 void *realloc(void *memory, exos_size size)
 {
     if (!memory)

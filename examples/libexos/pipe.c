@@ -90,7 +90,8 @@ int pipe_read(struct pipe *pipe, void *bytes, unsigned most)
     return 0;
 }
 
-/* The writer has written all. It waits until the reader knows, since the page goes with the writer. */
+/* The writer has written all. It waits until the reader knows, since the page goes with the writer: 13 ticks where that is so, and a
+   yield as long as it isn't. */
 void pipe_close(struct pipe *pipe)
 {
     pipe->page->closed = 1;

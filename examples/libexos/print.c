@@ -7,7 +7,7 @@ enum { KEPT = 256, DIGITS = 12 };
 static char kept[KEPT] __attribute__((aligned(KEPT))); /* in one page, as a put needs it */
 static unsigned kept_length;
 
-/* Puts what is kept: one call. Where the console is full it is lost. */
+/* Puts what is kept: a put, 13 ticks, and 10 ticks where there is nothing. Where the console is full it is lost. */
 void print_out(void)
 {
     if (kept_length)
@@ -15,7 +15,7 @@ void print_out(void)
     kept_length = 0;
 }
 
-/* Ends the program, with what it printed: two calls. */
+/* Ends the program, with what it printed: a put, an exit, 17 ticks where nothing is kept. */
 void exit(int code)
 {
     print_out();
@@ -24,15 +24,16 @@ void exit(int code)
         ;
 }
 
-/* Where characters go: into a text of some size, or to the console where there is none. */
+/* Where characters go: into a text of some size, or to the console. */
 struct out {
+    int is_text;
     char *to;
     exos_size size, length;
 };
 
 static void write(struct out *out, char character)
 {
-    if (out->to) {
+    if (out->is_text) {
         if (out->length + 1 < out->size)
             out->to[out->length] = character;
     } else {
@@ -80,7 +81,7 @@ static const char *write_one(struct out *out, const char *format, va_list *argum
     else if (*format == 's') {
         const char *text = va_arg(*arguments, const char *);
         write_padded(out, text, strlen(text), width, ' ');
-    } else
+    } else if (*format)
         write(out, *format == 'c' ? (char)va_arg(*arguments, int) : *format);
     return *format ? format + 1 : format;
 }
@@ -94,10 +95,10 @@ static void write_all(struct out *out, const char *format, va_list *arguments)
             write(out, *format++);
 }
 
-/* How many characters it printed. A put for each line. */
+/* How many characters it printed. A put for each line: 447 ticks for one with a number of five digits. */
 int printf(const char *format, ...)
 {
-    struct out out = {0, 0, 0};
+    struct out out = {0, 0, 0, 0};
     va_list arguments;
     va_start(arguments, format);
     write_all(&out, format, &arguments);
@@ -105,11 +106,11 @@ int printf(const char *format, ...)
     return out.length;
 }
 
-/* The same into a text, of which as much is kept as there is room for. It answers how long all of it is. Asks nothing: 300
+/* The same into a text, of which as much is kept as there is room for. It answers how long all of it is. Asks nothing: 317
    ticks for a number of five digits. */
 int snprintf(char *to, exos_size size, const char *format, ...)
 {
-    struct out out = {to, size, 0};
+    struct out out = {1, to, size, 0};
     va_list arguments;
     va_start(arguments, format);
     write_all(&out, format, &arguments);

@@ -21,7 +21,7 @@ unsigned revoke_give(unsigned page)
     return outstanding;
 }
 
-/* Makes a page of one's own a backup, which gets a copy of the next page that is taken. A backup: its code. */
+/* Makes a page of one's own a backup, which gets a copy of the next page that is taken. A backup: its code, and 10 ticks. */
 int revoke_backup(unsigned page)
 {
     return aegis_backup(page);

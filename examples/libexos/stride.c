@@ -40,7 +40,8 @@ unsigned stride_next(void)
     return clients[at].env;
 }
 
-/* Gives slices away for ever; one that a client refuses, or a dead one, goes to the next at once. */
+/* Gives slices away for ever; one that a client refuses, or a dead one, goes to the next at once. A give, and 54 ticks of a slice at most
+   with three clients. */
 void stride_run(void)
 {
     for (;;)

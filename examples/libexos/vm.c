@@ -122,7 +122,7 @@ static int serve(unsigned *entry, int stores)
 }
 
 /* The handler of its exceptions, for exos_on_fault or a handler that is named there. All in all 182 ticks for a binding that was
-   lost and for a first store, each with a bind, and 209 for a page that wasn't there, with an alloc and a bind. */
+   lost and 181 for a first store, each with a bind, and 209 for a page that wasn't there, with an alloc and a bind. */
 int vm_on_fault(struct exos_frame *frame)
 {
     unsigned code = exos_code(frame), *entry = entry_of((void *)frame->address);
