@@ -34,7 +34,7 @@ from registers import FIRST_STACK, HI, LO, SP
 from report import CAUSES, Cpu, Environment, Lines, Mark, Report, read, read_head
 from shown import decoded, open_output, shown
 from source import read_source
-from trace_lines import Row, read_trace
+from trace_lines import Row, lines_of, read_trace
 
 ANSWERS = dict(enumerate(kernel_calls.ANSWERS))  # the names of codes
 CALLS = [it.name for _, it in sorted(kernel_calls.CALLS.items())]
@@ -125,6 +125,12 @@ class Call:
         return f"call {self.number}" + (f" ({CALLS[self.number]})" if self.number < len(CALLS) else "")
 
 
+def call_of(time: int, registers: Dict[str, str], told: Dict[str, str]) -> Call:
+    """A call by the registers before it and those that it changed, as a trace has them."""
+    number, *arguments, value = (int(registers.get(f"${place}", "0"), 16) for place in (2, 4, 5, 6, 7, 8, 3))
+    return Call(time, number, arguments, int(told.get("$2", f"{number:x}"), 16), int(told.get("$3", f"{value:x}"), 16))
+
+
 def aegis(*words: str, cwd: str) -> bytes:
     """What the program writes."""
     ran = subprocess.run([program(), *words], stdout=subprocess.PIPE, cwd=cwd)
@@ -145,6 +151,7 @@ class Machine:
         self.reports: Dict[int, Report] = {}
         self.cpus: Dict[int, List[Environment]] = {}
         self.stepped: Dict[Tuple[int, int], List[Step]] = {}
+        self.called: Dict[Tuple[int, int], List[Call]] = {}
 
     def run(self, ticks: int) -> Report:
         """The report of a run with this limit."""
@@ -207,14 +214,32 @@ class Machine:
         if ticks > MOST_TRACED:
             yield from self.untraced_calls(env, ticks, since, until)
             return
-        branch = -1  # the address of the delay slot that is next, if one is
-        for step in self.steps(env, ticks):
-            row, registers = step.row, step.registers
-            if until is not None and row.tick >= until:
+        if (env, ticks) not in self.called:
+            self.called[env, ticks] = list(self.traced_calls(env, ticks))
+        for call in self.called[env, ticks]:
+            if until is not None and call.time >= until:
                 return
-            if row.text == "syscall" and row.pc != branch and row.tick >= since and not row.is_dead:
-                yield Call(row.tick, registers[2], registers[4:9], row.told.get(2, registers[2]), row.told.get(3, registers[3]))
-            branch = row.pc + 4 if row.word is not None and is_jump(row.word) else -1
+            if call.time >= since:
+                yield call
+
+    def traced_calls(self, env: int, ticks: int) -> Iterator[Call]:
+        """The calls that an environment's trace tells. Its other lines are many, and only change registers."""
+        text = aegis("trace", self.image, self.schedule, str(ticks), str(env), cwd=self.room).decode("latin-1")
+        entered = [it.time for it in self.run(ticks).marks if it.kind in ("async", "sync") and it.env == env]
+        registers: Dict[str, str] = {}  # by their names in the trace, in its digits
+        slot = ""  # the address of the delay slot that is next, if one is
+        for line in lines_of(text):
+            tick, pc, word, name, *rest = line.split(" ")
+            if entered and entered[0] < int(tick):
+                known = self.known(env, int(tick), [])
+                registers = {f"${place}": f"{value:x}" for place, value in enumerate(known)} or registers
+                entered = [it for it in entered if it >= int(tick)]
+            is_dead = rest[-1:] == ["dead"]
+            told = {} if is_dead else dict(zip(rest[len(rest) % 2::2], rest[len(rest) % 2 + 1::2]))  # operands are one word or none
+            if name == "syscall" and pc != slot and not is_dead:
+                yield call_of(int(tick), registers, told)
+            registers.update(told)
+            slot = f"{int(pc, 16) + 4:08x}" if name[0] in "bj" and is_jump(int(word, 16)) else ""
 
     def untraced_calls(self, env: int, ticks: int, since: int, until: Optional[int]) -> Iterator[Call]:
         """The same where there is no trace: the registers are looked at before and after each tick in which it runs."""
