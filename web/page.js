@@ -11,7 +11,7 @@ import { sha256 } from "./sha256.js";
 import { showSteps } from "./step.js";
 import { stepData } from "./steps.js";
 import { fillTables, tables } from "./tables.js";
-import { bytesOfLatin, counted, shown } from "./text.js";
+import { counted, shown, unpacked } from "./text.js";
 import { told } from "./told.js";
 import { at, bytesShown, frame, save } from "./window.js";
 
@@ -272,15 +272,23 @@ class Page {
   }
 }
 
+/** What a browser has where it can run the module. */
+const WANTED = ["WebAssembly", "DecompressionStream"];
+
 /** Begins, where the browser has what is needed. */
 async function begin() {
   at("stepper").hidden = true;
+  const lacking = WANTED.filter(it => !(it in globalThis));
+  if (lacking.length) {
+    at("ends").textContent = `This browser can't run the page's module: it has no ${lacking.join(" and no ")}. A newer browser has what is missing.`;
+    return;
+  }
   try {
     fillTables(partOf("tables"));
-    const run = await load(bytesOfLatin(atob(at("module").textContent.trim())));
+    const run = await load(await unpacked(at("module").textContent));
     new Page(run, partOf("programs"));
   } catch (why) {
-    at("ends").textContent = why instanceof Failed ? why.message : `This browser can't run the page's module: it wants WebAssembly (${why.message}).`;
+    at("ends").textContent = why instanceof Failed ? why.message : `The page's module can't be run here: ${why.message}`;
   }
 }
 

@@ -37,6 +37,12 @@ export function bytesOfLatin(text) {
   return Uint8Array.from(text, it => it.charCodeAt(0));
 }
 
+/** Bytes that zlib packed, in base64, unpacked. */
+export function unpacked(text) {
+  const packed = new Blob([bytesOfLatin(atob(text.trim()))]).stream();
+  return new Response(packed.pipeThrough(new DecompressionStream("deflate"))).arrayBuffer();
+}
+
 /** The length of the UTF-8 character at a place, 0 where the bytes there are none. */
 function lengthAt(bytes, at) {
   const first = bytes[at], next = bytes[at + 1];

@@ -86,9 +86,11 @@ def sources(room: str) -> Iterator[Item]:
 
 
 def wrong_solutions(room: str) -> Iterator[Item]:
-    """The exercises' solutions with each edit that makes them wrong, by each manifest of the exercise."""
+    """The exercises' solutions in assembly with each edit that makes them wrong, by each manifest of the exercise."""
     for at, _, files in sorted(os.walk(f"{ROOT}/cases/labs")):
         lab = os.path.basename(at)
+        if not os.path.exists(f"{at}/{lab}.s"):
+            continue
         for edit in sorted(it for it in files if it.endswith(".edit")):
             with open(f"{at}/{lab}.s", encoding="utf-8") as file, open(f"{at}/{edit}", encoding="utf-8") as changes:
                 text = file.read()

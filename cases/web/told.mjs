@@ -11,9 +11,9 @@ const page = readFileSync(process.argv[2], "utf8");
 const partOf = id => new RegExp(`<script type="[^"]*" id="${id}">([^]*?)</script>`).exec(page)[1];
 const nothing = { getElementById: () => ({ textContent: "" }) };
 const modules = new Function("document", `${/<script>([^]*?)<\/script>/.exec(page)[1]}; return modules;`)(nothing);
-const { aegis, steps, tables, told } = modules;
+const { aegis, steps, tables, text, told } = modules;
 tables.fillTables(JSON.parse(partOf("tables")));
-const run = await aegis.load(Buffer.from(partOf("module"), "base64"));
+const run = await aegis.load(await text.unpacked(partOf("module")));
 
 /** The files of a folder by their names. */
 function filesOf(folder) {
