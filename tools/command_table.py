@@ -22,7 +22,7 @@ class Command(NamedTuple):
     text: str
 
     def words(self) -> str:
-        """Those behind the command's name."""
+        """Those after the command's name."""
         return self.form.partition(" ")[2]
 
     @property
@@ -37,7 +37,7 @@ class Command(NamedTuple):
         return self.text.format(**self.limits())
 
     def named(self) -> str:
-        """The words that name files, as bash has them behind the command's name."""
+        """The words that name files, as bash has them after the command's name."""
         return "".join(f' "${{@:{it[:-2]}}}"' if it.endswith("..") else f' "${{@:{it}:1}}"' for it in self.files)
 
 

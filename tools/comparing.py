@@ -15,8 +15,8 @@ from trace_lines import Row, read_trace
 
 SAME, FOUND = 0, 1
 NO_TWIN = "the program has no command `twin`: it is of an earlier release"
-NONE = "none"  # the item behind the last
-BEHIND_STEP = ("answer", "gained", "end", "killed")  # what is given behind the step of its tick, if the environment makes one
+NONE = "none"  # the item after the last
+AFTER_STEP = ("answer", "gained", "end", "killed")  # what is given after the step of its tick, if the environment makes one
 PROBE = "probe.sch"
 
 
@@ -74,7 +74,7 @@ class Comparison:
         return Difference(int(first.split()[1]), *items) if first.startswith("differ") else None
 
     def items_before(self, side: Side, tick: int, slices: int) -> Optional[int]:
-        """How many items the environment is given before a tick; none behind its end or the end of the slice. In a run in which it
+        """How many items the environment is given before a tick; none after its end or the end of the slice. In a run in which it
         is asked for a page in that tick, before all else, the first item that differs is this."""
         own = content(f"{self.room}/{side.schedule()}").decode("latin-1").splitlines()
         events = [(event_tick(line), line) for line in own if line.split("#")[0].split()]
@@ -93,20 +93,20 @@ class Comparison:
             """Whether the tick is this one, or one before it."""
             count = self.items_before(side, tick, slices)
             return count is not None and count <= index
-        behind = 1
-        while behind < MOST_RUN_TICKS and is_reached(behind):
-            behind = min(2 * behind, MOST_RUN_TICKS)
-        tick = behind // 2
-        while behind - tick > 1:
-            middle = (tick + behind) // 2
-            tick, behind = (middle, behind) if is_reached(middle) else (tick, middle)
+        beyond = 1
+        while beyond < MOST_RUN_TICKS and is_reached(beyond):
+            beyond = min(2 * beyond, MOST_RUN_TICKS)
+        tick = beyond // 2
+        while beyond - tick > 1:
+            middle = (tick + beyond) // 2
+            tick, beyond = (middle, beyond) if is_reached(middle) else (tick, middle)
         return tick
 
     def step_before(self, side: Side, item: str, tick: int, report: Report) -> Optional[Row]:
         """The line of the trace of the step before an item that is given in a tick, if there is one."""
         kind, *words = item.split()
         taken = any(it.kind == "take" and it.time == tick and it.row.split()[3:4] == words[:1] for it in report.marks)
-        is_behind = kind in (*BEHIND_STEP, NONE) or kind == "lost" and not taken
+        is_after = kind in (*AFTER_STEP, NONE) or kind == "lost" and not taken
         first = max(0, tick + 1 - MOST_TRACED_TICKS)
-        rows = [row for row in read_trace(Moments(side.machine).trace(self.env, first, tick + 1)) if row.tick < tick + is_behind]
+        rows = [row for row in read_trace(Moments(side.machine).trace(self.env, first, tick + 1)) if row.tick < tick + is_after]
         return rows[-1] if rows else None

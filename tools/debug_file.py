@@ -52,7 +52,7 @@ def signed(value: int) -> bytes:
 
 
 def counted(content: bytes) -> bytes:
-    """Bytes behind their length."""
+    """Bytes after their length."""
     return struct.pack("<I", len(content)) + content
 
 

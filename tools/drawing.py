@@ -22,7 +22,7 @@ class Kind:
     """A kind of mark."""
 
     shape: str  # within 5 of (0, 0)
-    after: bool  # it happens after its tick's step, and stands behind the tick
+    after: bool  # it happens after its tick's step, and stands after the tick
     says: str
 
 

@@ -186,7 +186,7 @@ def asked_for(env: int, marks: List[Mark], died: Optional[int], end: int) -> Ite
         elif died is not None and died < it.until:
             yield f"{says}; it died before"
         elif it.until >= end:
-            yield f"{says}, which is behind the end"
+            yield f"{says}, which is after the end"
         else:
             yield f"{says}: {outstanding - taken[it.until]:,} given back, {taken[it.until]:,} taken"
 

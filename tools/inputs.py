@@ -32,19 +32,19 @@ def text_of(word: str) -> bytes:
     else:
         text = re.sub(r"\\([nt\\@])", lambda it: ESCAPES[it[1]], word).encode("utf-8", errors="surrogateescape")
     if b"\0" in text:
-        raise Failed(USAGE, "--input: a text has no byte 0, which stands behind its end")
+        raise Failed(USAGE, "--input: a text has no byte 0, which ends it")
     return text if not text or text.endswith(b"\n") else text + b"\n"
 
 
 def arrivals(text: bytes) -> List[Tuple[int, bytes]]:
-    """The packets of a text, with the tick in which each comes: behind the text stands a byte 0."""
+    """The packets of a text, with the tick in which each comes: after the text comes a byte 0."""
     pieces = [text[at: at + MOST_TEXT] for at in range(0, len(text) + 1, MOST_TEXT)] or [b""]
     pieces[-1] += b"\0"
     return [(FIRST + BETWEEN * at, HEAD + piece) for at, piece in enumerate(pieces)]
 
 
 def with_input(schedule: str, text: bytes) -> str:
-    """A schedule without a fault, with the packets of a text: in their tick they come behind its own events."""
+    """A schedule without a fault, with the packets of a text: in their tick they come after its own events."""
     own = [(event_tick(line), line) for line in schedule.splitlines() if line.split("#")[0].split()]
     found = [(tick, f"{tick} packet {data.hex()}") for tick, data in arrivals(text)]
     if found[-1][0] > MOST_RUN_TICKS or len(own) + len(found) > MOST_EVENTS:

@@ -68,7 +68,7 @@ def answer_name(code: Optional[int]) -> str:
 
 
 def answered(registers: Sequence[Optional[int]]) -> str:
-    """What a call was answered, by the registers behind it: the value of a granted one, or the refusal's name and code."""
+    """What a call was answered, by the registers after it: the value of a granted one, or the refusal's name and code."""
     code, value = registers[CODE], registers[VALUE]
     if code == 0:
         return "?" if value is None else f"{value}" if value < 1 << 31 else f"0x{value:08x}"

@@ -1,5 +1,5 @@
-"""Where the kernel puts what it tells an environment: docs/KERNEL.md, "The context page" and "Rings". The tools and the reference
-have these numbers of one place; what the kernel does with them each tells by itself.
+"""Where the kernel puts what it tells an environment: docs/KERNEL.md, "The context page" and "What happens from outside". The tools and
+the reference have these numbers of one place; what the kernel does with them each tells by itself.
 """
 
 from __future__ import annotations

@@ -88,7 +88,7 @@ def of_tick(whole: List[List[Tuple[int, bytes]]], tick: int, before: Counts, aft
 
 
 def wired_schedule(schedule: str, packets: Iterable[Packet], machine: int, machines: int, delay: int) -> str:
-    """A machine's schedule with what comes to it over the wire, in each tick behind the schedule's own events. Under it the
+    """A machine's schedule with what comes to it over the wire, in each tick after the schedule's own events. Under it the
     machine runs alone as it does on the wire."""
     own = [(event_tick(line), line) for line in schedule.splitlines() if line.split("#")[0].split()]
     arrivals = [(it.tick + delay, f"{it.tick + delay} packet {it.data.hex()}") for it in packets if machine in it.receivers(machines)]

@@ -69,7 +69,7 @@ class Places:
         self.order = sorted((address, name) for name, address in self.labels.items())
 
     def name(self, address: int) -> str:
-        """An address by the label before it and how far it is behind that, or nothing."""
+        """An address by the label before it and how far it is after that, or nothing."""
         at = bisect_right(self.order, (address, "\x7f")) - 1
         if at < 0 or (self.order[at][0] >= DATA) != (address >= DATA) or address - self.order[at][0] >= 1 << 16:
             return ""

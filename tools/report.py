@@ -162,15 +162,15 @@ class Lines:
         return Refused(self.number, f"another row is due here, or this one has another form: {ascii(shown)}")
 
     def goes_on(self) -> bool:
-        """Whether anything stands behind this line."""
+        """Whether anything comes after this line."""
         if self.next == len(self.block):
             self.block, self.start, self.next = self.block[self.start:] + self.source.read(self.BLOCK), 0, self.next - self.start
         return self.next < len(self.block)
 
     def finish(self) -> None:
-        """Nothing stands behind the last line."""
+        """Nothing comes after the last line."""
         if self.goes_on():
-            raise Refused(self.number + 1, "a line behind `done`")
+            raise Refused(self.number + 1, "a line after `done`")
 
 
 @dataclass
@@ -394,7 +394,7 @@ class Ledger:
             lines.leap(rows, to)
 
     def plain_slice(self, rows: str, *fields: str) -> bool:
-        """Takes a `run` and the `stop` right behind it together, and says whether they fit."""
+        """Takes a `run` and the `stop` right after it together, and says whether they fit."""
         start, slot, env, stop = map(int, fields)
         fits = self.runner is None and self.time <= start == self.turn <= stop < self.ended
         if not fits or slot >= MOST_SLOTS or env >= self.count:
@@ -441,9 +441,9 @@ class Ledger:
         lines.finish()
 
     def read_fills(self, lines: Lines) -> None:
-        """Reads what `aegis tlb` writes behind a report, of which the fills are kept."""
+        """Reads what `aegis tlb` writes after a report, of which the fills are kept."""
         if not TLB["aegis"].fullmatch(lines.text):
-            raise Refused(lines.number, "a line behind `done`")
+            raise Refused(lines.number, "a line after `done`")
         lines.advance()
         if lines.fields(HEAD["end"]) != (self.head.ending, str(self.head.time)):
             raise lines.misplaced()

@@ -36,7 +36,20 @@ def first_tick(steps: Steps, first: Optional[int], middle: Optional[int]) -> int
 
 
 class Data:
-    """What the page's script is given."""
+    """What the page's script is given, as one value in JSON:
+
+    title, names, files, labels  the heading; the names of 34 registers; each file of the source with its lines; addresses by label
+    first           the registers at the start
+    spots           instructions: address, label, file, line, text; of `li` and `la` also the statement and 1 or 2
+    steps           tick, spot, registers that the step changed, those that the kernel set before it, characters of the console, what
+                    is told, whether it is a call or the end, whether it was refused; where memory changed, a list of that
+    between, marks  lines before a step, counted from 1, of what happened there; the steps that `slice`, `packet` and `miss` go to
+    memory          the bytes of the pages at the start by their VPNs, without the zeros at their ends
+    console, end    all of the console, and how the environment ended, or that the run goes on
+
+    A change of memory is a VPN with a place and the bytes there. No bytes make a new page of zeros, and a VPN alone means that its
+    page is gone.
+    """
 
     def __init__(self, steps: Steps, places: Places, program: Program, title: str, tick: int = 0):
         self.steps, self.places, self.title = steps, places, title

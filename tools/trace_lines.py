@@ -31,7 +31,7 @@ def lines_of(text: str) -> List[str]:
     lines = text.split("\n")
     if len(lines) < 4 or lines[-1] or lines[-2] != "done" or not lines[-3].startswith("end "):
         whole = len(lines) - 1
-        raise Cut(f"the trace is cut behind its line {whole}: it isn't the end of the run" if whole else "there is no trace")
+        raise Cut(f"the trace is cut after its line {whole}: it isn't the end of the run" if whole else "there is no trace")
     return lines[1:-3]
 
 
